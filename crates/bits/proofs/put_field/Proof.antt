@@ -1,0 +1,107 @@
+-- `put_field` writes the field that the specification names. The invariant: the digits that are done are written. Assumes nothing.
+use mathlib.Core.Path.{_≡_, refl, sym, ap, _∙_}
+use mathlib.Core.Logic.{⊎-elim}
+use Prim.Native.Nat.{ℕ, _+_, _-_, _*_, _/_, _%_, _^_, _<_, _≤_, zero-le}
+use native.Mathlib.Omega.{arith}
+use native.Mathlib.Nat.{div-one}
+use borrow.Author.Needs.{needs}
+use mathlib.Core.List.{List}
+use lib.ListN.{length}
+use Rattle.bits.specs.Bits.{putField}
+use Rattle.bits.proofs.Writing.{length-putField, putField-zero, putField-chunk}
+use Rattle.bits.proofs.put_field.Statement.{statement}
+use Rattle.bits.proofs.put_field.Tie as tie
+use Rattle.bits.proofs.put_field.Reads as reads
+use Rattle.bits.proofs.put_field.Lts as lts
+use Rattle.bits.proofs.put_in_byte.Reads as put-in-byte-reads
+
+abbrev Inv-loop : tie.InvT-loop
+Inv-loop s₀ p w v done₀ s done = (done ≤ w) × (s ≡ putField s₀ p done (v / 2 ^ (w - done)))
+
+abbrev μ-loop : tie.MeasureT-loop
+μ-loop s₀ p w v done₀ s done = w - done
+
+-- the next digits: at least one, no more than are left, and all in one byte
+record Chunk (at left next : ℕ) : Type 0 where
+  pub some : 0 < next
+  pub within : next ≤ left
+  pub inside : at % 8 + next ≤ 8
+
+chunk : (c : tie.Joined1 Inv-loop μ-loop)
+    → Chunk (c .before .before .before .before .args .p + c .before .before .loop .done) (c .before .before .before .before .args .w - c .before .before .loop .done) (c .if1 .next)
+chunk c = ⊎-elim (λ w. omega arith) (λ w. omega arith) (c .if1 .came)
+
+-- the slice keeps its length
+kept : (c : tie.At-loop Inv-loop μ-loop) → length (c .loop .s) ≡ length (c .before .before .args .s .now)
+kept c = ap length (c .loop .inv .1) ∙ length-putField (c .before .before .args .s .now) (c .before .before .args .p) (c .loop .done) _
+
+loop-holds : tie.Need-loop-holds Inv-loop μ-loop
+loop-holds c = (zero-le, sym (putField-zero (c .before .args .s .now) (c .before .args .p) _))
+
+add-at : tie.Need-add-at Inv-loop μ-loop
+add-at c = search needs
+
+sub-room : tie.Need-sub-room Inv-loop μ-loop
+sub-room c = search needs
+
+sub-left : tie.Need-sub-left Inv-loop μ-loop
+sub-left c = search needs
+
+sub-put-in-byte : tie.Need-sub-put-in-byte Inv-loop μ-loop
+sub-put-in-byte c = chunk (c .before .before) .within
+
+shr-put-in-byte : tie.Need-shr-put-in-byte Inv-loop μ-loop
+shr-put-in-byte c = search needs
+
+put-in-byte-requires : tie.Need-put-in-byte-requires Inv-loop μ-loop
+put-in-byte-requires c κs =
+    let k = chunk (c .before .before) in
+    (omega (arith, k, kept (c .before .before .before .before)), k .inside)
+
+add-done : tie.Need-add-done Inv-loop μ-loop
+add-done c = omega (arith, chunk (c .before .before .before .before .before))
+
+loop-less : tie.Need-loop-less Inv-loop μ-loop
+loop-less c = omega (arith, chunk (c .before .before .before .before .before))
+
+loop-again : tie.Need-loop-again Inv-loop μ-loop
+loop-again c =
+    let a = c .before .before .before .before .before .before .before .before .before .args in
+    let l = c .before .before .before .before .before .before .before .loop in
+    let k = chunk (c .before .before .before .before .before) in
+    let n = c .before .before .before .before .before .if1 .next in
+    (omega (arith, k),
+     c .before .before .put-in-byte .ensures
+     ∙ ap (λ (z : List ℕ). putField z (a .p + l .done) n (a .v / 2 ^ (a .w - l .done - n))) (l .inv .1)
+     ∙ putField-chunk (a .s .now) (a .p) (a .w) (a .v) (l .done) n (omega (arith, k)))
+
+same-length : tie.Need-same-length Inv-loop μ-loop
+same-length c = kept (c .before)
+
+returns : tie.Need-returns Inv-loop μ-loop
+returns c =
+    let a = c .before .before .before .args in
+    let l = c .before .loop in
+    let all : l .done ≡ a .w = omega arith in
+    let none : a .w - a .w ≡ 0 = omega arith in
+    l .inv .1 ∙ ap (λ (d : ℕ). putField (a .s .now) (a .p) d (a .v / 2 ^ (a .w - d))) all
+    ∙ ap (λ (e : ℕ). putField (a .s .now) (a .p) (a .w) (a .v / 2 ^ e)) none ∙ ap (putField (a .s .now) (a .p) (a .w)) (div-one (a .v))
+
+pub put-field-spec : {M : Type 1} → statement M
+put-field-spec =
+    tie.close
+    (tie.spec
+    Inv-loop
+    μ-loop
+    loop-holds
+    add-at
+    sub-room
+    sub-left
+    sub-put-in-byte
+    shr-put-in-byte
+    put-in-byte-requires
+    add-done
+    loop-less
+    loop-again
+    same-length
+    returns)

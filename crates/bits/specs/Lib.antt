@@ -1,0 +1,2 @@
+-- The definitions that the contracts of `bits` cite.
+pub mod Bits

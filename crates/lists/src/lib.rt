@@ -1,0 +1,1 @@
+// Definitions over lists of numbers and their laws: no code.
