@@ -4,7 +4,8 @@ use mathlib.Core.Path.{_≡_, refl, sym, ap, ap₂, _∙_, subst}
 use mathlib.Core.List.{List}
 use Prim.Native.Nat.{ℕ, zero, suc, _+_, _-_, _*_, _/_, _%_, _^_, _<_, _≤_}
 use native.Mathlib.Omega.{arith}
-use native.Mathlib.Numerals.{add-one, one-add}
+use native.Mathlib.Decide.{ℕ-discrete}
+use native.Mathlib.Numerals.{add-one}
 use native.Mathlib.Nat.{add-zero, add-suc, add-assoc, add-mul, mul-assoc, mul-one, mod-one, mod-lt, div-one, mod-eq-of-lt, pow-suc, zero-lt-suc, lt-of-lt-of-le}
 use lib.ListN.{getD}
 use lib.Pow.{pow-mono, shr-shr, mod-pow-add, high, low}
@@ -113,3 +114,19 @@ fieldAt-more bs k i {v} {r} e h f =
     let joined : fieldAt bs (k * 8) ((i + 1) * 8) ≡ fieldAt bs (k * 8) (i * 8) * 256 + fieldAt bs (k * 8 + i * 8) 8 = ap (fieldAt bs (k * 8)) width ∙ fieldAt-join bs (k * 8) (i * 8) 8 in
     let byte : fieldAt bs (k * 8 + i * 8) 8 ≡ getD bs (k + i) 0 = ap (λ (q : ℕ). fieldAt bs q 8) place ∙ fieldAt-byte bs (k + i) h in
     omega arith
+
+-- ---- a field is 0 exactly where its bits are
+
+pub fieldAt-zeros : (bs : List ℕ) (p w : ℕ) → fieldAt bs p w ≡ 0 → (i : ℕ) → i < w → bitAt bs (p + i) ≡ 0
+unfolding fieldAt number
+fieldAt-zeros bs p zero e i h = absurd (omega arith)
+fieldAt-zeros bs p (suc w) e i h = go (ℕ-discrete i w) (λ l. fieldAt-zeros bs p w (omega (arith, e)) i l)
+  where
+    go : Dec (i ≡ w) → (i < w → bitAt bs (p + i) ≡ 0) → bitAt bs (p + i) ≡ 0
+    go (yes q) ih = ap (λ (j : ℕ). bitAt bs (p + j)) q ∙ omega (arith, e)
+    go (no q) ih = ih (omega arith)
+
+pub zeros-fieldAt : (bs : List ℕ) (p w : ℕ) → ((i : ℕ) → i < w → bitAt bs (p + i) ≡ 0) → fieldAt bs p w ≡ 0
+unfolding fieldAt number
+zeros-fieldAt bs p zero h = refl
+zeros-fieldAt bs p (suc w) h = omega (arith, zeros-fieldAt bs p w (λ i l. h i (omega arith)), h w (omega arith))

@@ -1,1 +1,3 @@
+-- Lists and rules, as the specifications of the layers above use them.
 pub mod Lists
+pub mod Rules

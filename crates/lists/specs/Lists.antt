@@ -1,11 +1,43 @@
+-- Ranges, tests over lists, sums, and the first fault of a list of tests. Assumes nothing.
+use mathlib.Core.Bool.{Bool, true, false, _&&_}
 use mathlib.Core.List.{List, [], _∷_}
-use Prim.Native.Nat.{ℕ, zero, suc}
+use Prim.Native.Nat.{ℕ, zero, suc, _+_}
+use lib.Dec.{eqb}
+use lib.ListN.{getD}
 
-pub record Rule : Type 1 where
-  pub number : ℕ
-  pub holds : Type 0
+-- k numbers from i on
+unfoldable pub range : ℕ → ℕ → List ℕ
+range i zero = []
+range i (suc k) = i ∷ range (suc i) k
 
-pub data Judged : List Rule → ℕ → Type 1 where
-  kept : Judged [] zero
-  broken : {r : Rule} {rs : List Rule} → ¬ (r .holds) → Judged (r ∷ rs) (r .number)
-  passed : {r : Rule} {rs : List Rule} {k : ℕ} → r .holds → Judged rs k → Judged (r ∷ rs) k
+-- k where the test holds, else 0
+unfoldable pub on : Bool → ℕ → ℕ
+on true k = k
+on false k = 0
+
+-- the first number that is not 0, or 0
+unfoldable pub first : List ℕ → ℕ
+first [] = 0
+first (zero ∷ xs) = first xs
+first (suc x ∷ xs) = suc x
+
+unfoldable pub sum : List ℕ → ℕ
+sum [] = 0
+sum (x ∷ xs) = x + sum xs
+
+-- two lists of numbers are equal
+unfoldable pub equal : List ℕ → List ℕ → Bool
+equal [] [] = true
+equal [] (y ∷ ys) = false
+equal (x ∷ xs) [] = false
+equal (x ∷ xs) (y ∷ ys) = eqb x y && equal xs ys
+
+module _ {A : Type 0} where
+  -- element v, counted from 1, or the default
+  unfoldable pub item : List A → ℕ → A → A
+  item l zero d = d
+  item l (suc i) d = getD l i d
+
+  unfoldable pub all : (A → Bool) → List A → Bool
+  all f [] = true
+  all f (x ∷ xs) = f x && all f xs

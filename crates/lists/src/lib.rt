@@ -1,1 +1,1 @@
-// Definitions over lists of numbers and their laws: no code.
+// Definitions over lists that the layers above share, and their laws. There is no code here.

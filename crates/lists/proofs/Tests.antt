@@ -1,0 +1,49 @@
+-- Tests as facts. Assumes nothing.
+use mathlib.Core.Path.{_≡_, refl, subst}
+use mathlib.Core.Bool.{Bool, true, false, not, _&&_, _||_}
+use mathlib.Core.Logic.{_⊎_, inl, inr}
+use mathlib.Core.List.{List, [], _∷_}
+use Prim.Native.Nat.{ℕ, zero, suc, _<_}
+use native.Mathlib.Nat.{le-of-suc-le-suc, not-suc-le-zero}
+use lib.Dec.{T, eqb, eqb-refl}
+use lib.ListN.{length, getD}
+use Rattle.lists.specs.Lists.{all}
+
+pub and-T : (a b : Bool) → T (a && b) → T a × T b
+and-T true b t = (tt, t)
+and-T false b t = absurd t
+
+pub T-and : (a b : Bool) → T a → T b → T (a && b)
+T-and true b s t = t
+T-and false b s t = s
+
+pub or-T : (a b : Bool) → T (a || b) → T a ⊎ T b
+or-T true b t = inl tt
+or-T false b t = inr t
+
+pub T-or-l : (a b : Bool) → T a → T (a || b)
+T-or-l true b t = tt
+T-or-l false b t = absurd t
+
+pub T-or-r : (a b : Bool) → T b → T (a || b)
+T-or-r true b t = tt
+T-or-r false b t = t
+
+pub not-or : (a b : Bool) → T (not (a || b)) → T (not a) × T (not b)
+not-or true b t = absurd t
+not-or false b t = (tt, t)
+
+-- a test passes or it does not
+pub either : (b : Bool) → T b ⊎ T (not b)
+either true = inl tt
+either false = inr tt
+
+pub eq-T : (a b : ℕ) → a ≡ b → T (eqb a b)
+eq-T a b e = subst (λ (x : ℕ). T (eqb a x)) e (eqb-refl a)
+
+-- a test of all elements holds at each
+pub all-at : {A : Type 0} (f : A → Bool) (l : List A) → T (all f l) → (i : ℕ) → i < length l → (d : A) → T (f (getD l i d))
+unfolding all
+all-at f [] t i h d = absurd (not-suc-le-zero h)
+all-at f (x ∷ l) t zero h d = and-T (f x) (all f l) t .0
+all-at f (x ∷ l) t (suc i) h d = all-at f l (and-T (f x) (all f l) t .1) i (le-of-suc-le-suc h) d

@@ -1,0 +1,47 @@
+-- What the answer of reading tells. Assumes nothing.
+use mathlib.Core.Path.{_≡_, refl, sym, ap, ap₂, _∙_}
+use mathlib.Core.Logic.{_≢_}
+use mathlib.Core.List.{List}
+use Prim.Native.Nat.{ℕ, zero, suc}
+use native.Mathlib.Omega.{arith}
+use Rattle.picture.specs.declared.Header.{Header}
+use Rattle.picture.specs.declared.Reading.{Reading}
+use Rattle.picture.specs.declared.Reading.the-variants.{Accepted, Refused}
+use Rattle.picture.specs.Picture.{headerOf}
+use Rattle.picture.specs.Faults.{pictureFault}
+use Rattle.picture.specs.Answers.{readingOf, reading}
+
+-- ---- from the number to the answer
+
+pub told-accepted : {k : ℕ} (h : Header) → k ≡ 0 → Accepted h ≡ readingOf k h
+unfolding readingOf
+told-accepted h e = rw e
+
+pub told-refused : (k : ℕ) (h : Header) → k ≢ 0 → Refused k ≡ readingOf k h
+unfolding readingOf
+told-refused zero h n = absurd (n refl)
+told-refused (suc k) h n = refl
+
+-- ---- from the answer to the number
+
+-- accepted bytes have no fault, and the header is theirs
+pub record Read (bs : List ℕ) (h : Header) : Type 0 where
+  pub accepted : pictureFault bs ≡ 0
+  pub header : h ≡ headerOf bs
+
+pub accepted-read : (bs : List ℕ) (h : Header) → Accepted h ≡ reading bs → Read bs h
+unfolding reading readingOf
+accepted-read bs h e = go (pictureFault bs) refl e
+  where
+    go : (k : ℕ) → pictureFault bs ≡ k → Accepted h ≡ readingOf k (headerOf bs) → Read bs h
+    go zero f q = record { accepted = f; header = cc }
+    go (suc k) f q = let z : _≡_ {A = ℕ} 0 1 = cc in absurd (omega arith)
+
+-- refused bytes have the fault whose number is told
+pub refused-fault : (bs : List ℕ) (k : ℕ) → Refused k ≡ reading bs → (pictureFault bs ≡ k) × (k ≢ 0)
+unfolding reading readingOf
+refused-fault bs k e = go (pictureFault bs) refl e
+  where
+    go : (j : ℕ) → pictureFault bs ≡ j → Refused k ≡ readingOf j (headerOf bs) → (pictureFault bs ≡ k) × (k ≢ 0)
+    go zero f q = let z : _≡_ {A = ℕ} 0 1 = cc in absurd (omega arith)
+    go (suc j) f q = let s : k ≡ suc j = cc in (f ∙ sym s, λ z. absurd (omega arith))

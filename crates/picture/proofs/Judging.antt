@@ -1,0 +1,116 @@
+-- The tests of a picture say what its rules say. Assumes nothing.
+use mathlib.Core.Path.{_≡_, refl, sym, ap, _∙_, subst}
+use mathlib.Core.Bool.{Bool, true, false, not, _&&_, _||_}
+use mathlib.Core.Logic.{_⊎_, inl, inr, _≢_}
+use mathlib.Core.List.{List, [], _∷_, map}
+use Prim.Native.Nat.{ℕ, zero, suc, _+_, _-_, _*_, _/_, _%_, _≤_, _<_, zero-le, suc-le-suc}
+use native.Mathlib.Omega.{arith}
+use native.Mathlib.Nat.{not-suc-le-zero}
+use lib.Dec.{T, T-not, not-T, eqb, leb, ltb, leb→le, eqb→eq, nltb→le}
+use borrow.Author.Tests.{le-leb, le-ltb, eq-eqb, ne-eqb}
+use lib.ListN.{length, getD}
+use Rattle.bits.specs.Bits.{bitAt, fieldAt}
+use Rattle.bits.proofs.Reading.{fieldAt-zeros, zeros-fieldAt}
+use Rattle.lists.specs.Lists.{on}
+use Rattle.lists.proofs.Tests.{and-T, not-or, eq-T}
+use Rattle.lists.proofs.Faults.{on-zero, on-none}
+use Rattle.picture.specs.declared.Header.{Header}
+use Rattle.picture.specs.declared.Link.{Link}
+use Rattle.picture.specs.Layout.{Edition, edition1, blockSizeMax, blocksMax, endpointsMax, linksMax, noState, endAt, sizeOf}
+use Rattle.picture.specs.Picture.{Slot, Picture, slotOf}
+use Rattle.picture.specs.Faults.{sizesRight, countsRight, slotFault, linkFault, serviceFault, endRight}
+use Rattle.picture.specs.Rules.{Sizes, Counts, States, Links, Services, Ends, Limited, noLink}
+
+-- ---- the header
+
+module _ (e : Edition) (h : Header) where
+  pub right-sizes : T (sizesRight e h) → Sizes e h
+  unfolding sizesRight
+  right-sizes t =
+      let t1 = and-T (leb 1 (h .«block_size»)) _ t in
+      let t2 = and-T (leb (h .«block_size») blockSizeMax) _ (t1 .1) in
+      let t3 = and-T (leb 1 (h .slots)) _ (t2 .1) in
+      let t4 = and-T (leb (h .slots) (e .slotsMax)) _ (t3 .1) in
+      let t5 = and-T (eqb (h .slots % h .«block_size») 0) (leb (h .slots / h .«block_size») blocksMax) (t4 .1) in
+      record {
+        size-some = leb→le _ _ (t1 .0);
+        size-most = leb→le _ _ (t2 .0);
+        slots-some = leb→le _ _ (t3 .0);
+        slots-most = leb→le _ _ (t4 .0);
+        multiple = eqb→eq _ _ (t5 .0);
+        blocks-most = leb→le _ _ (t5 .1);
+      }
+
+  pub sizes-right : Sizes e h → T (sizesRight e h)
+  unfolding sizesRight
+  sizes-right s =
+      rw (le-leb _ _ (s .size-some), le-leb _ _ (s .size-most), le-leb _ _ (s .slots-some), le-leb _ _ (s .slots-most), eq-eqb _ _ (s .multiple), le-leb _ _ (s .blocks-most)) tt
+
+  pub right-counts : T (countsRight h) → Counts h
+  unfolding countsRight
+  right-counts t =
+      let t1 = and-T (leb (h .endpoints) endpointsMax) _ t in
+      let t2 = and-T (leb (h .links) linksMax) (leb (h .«service_links») linksMax) (t1 .1) in
+      record { endpoints-most = leb→le _ _ (t1 .0); links-most = leb→le _ _ (t2 .0); services-most = leb→le _ _ (t2 .1) }
+
+  pub counts-right : Counts h → T (countsRight h)
+  unfolding countsRight
+  counts-right s = rw (le-leb _ _ (s .endpoints-most), le-leb _ _ (s .links-most), le-leb _ _ (s .services-most)) tt
+
+pub right-limited : (h : Header) → T (sizesRight edition1 h) → T (countsRight h) → Limited h
+right-limited h s c = record { slots = right-sizes edition1 h s .slots-most; counts = right-counts edition1 h c }
+
+-- ---- the lists
+
+pub right-state : (s : Slot) → slotFault s ≡ 0 → s .state ≢ noState
+unfolding slotFault
+right-state s e q = T-not (eqb (s .state) noState) (on-zero (eqb (s .state) noState) 4 e) (eq-T (s .state) noState q)
+
+pub state-right : (s : Slot) → s .state ≢ noState → slotFault s ≡ 0
+unfolding slotFault
+state-right s n = on-none (eqb (s .state) noState) 5 (not-T (eqb (s .state) noState) (λ t. n (eqb→eq (s .state) noState t)))
+
+pub right-link : (n : ℕ) (l : Link) → linkFault n l ≡ 0 → (l .from ≤ n) × (l .to ≤ n)
+unfolding linkFault
+right-link n l e =
+    let t = not-or (ltb n (l .from)) (ltb n (l .to)) (on-zero (ltb n (l .from) || ltb n (l .to)) 5 e) in
+    (nltb→le n (l .from) (t .0), nltb→le n (l .to) (t .1))
+
+pub link-right : (n : ℕ) (l : Link) → l .from ≤ n → l .to ≤ n → linkFault n l ≡ 0
+unfolding linkFault on
+link-right n l f t = rw (le-ltb _ _ f, le-ltb _ _ t)
+
+pub right-service : (n d : ℕ) (l : Link) → serviceFault n d l ≡ 0 → (l .from ≤ n) × (1 ≤ l .to) × (l .to ≤ d)
+unfolding serviceFault
+right-service n d l e =
+    let t = not-or (ltb n (l .from)) (eqb (l .to) 0 || ltb d (l .to)) (on-zero (ltb n (l .from) || (eqb (l .to) 0 || ltb d (l .to))) 5 e) in
+    let u = not-or (eqb (l .to) 0) (ltb d (l .to)) (t .1) in
+    (nltb→le n (l .from) (t .0), above (l .to) (u .0), nltb→le d (l .to) (u .1))
+  where
+    above : (k : ℕ) → T (not (eqb k 0)) → 1 ≤ k
+    above zero t = absurd t
+    above (suc k) t = suc-le-suc zero-le
+
+pub service-right : (n d : ℕ) (l : Link) → l .from ≤ n → 1 ≤ l .to → l .to ≤ d → serviceFault n d l ≡ 0
+unfolding serviceFault on
+service-right n d l f s t =
+    let some : l .to ≢ 0 = λ z. absurd (omega arith) in
+    rw (le-ltb _ _ f, ne-eqb _ _ some, le-ltb _ _ t)
+
+-- ---- the end
+
+module _ (e : Edition) (h : Header) (bs : List ℕ) (room : endAt e h ≤ sizeOf e h * 8) where
+  pub right-ends : T (endRight e h bs) → Ends e h bs
+  unfolding endRight
+  right-ends t =
+      let fill : ℕ = sizeOf e h * 8 - endAt e h in
+      let u = and-T (eqb (fieldAt bs (endAt e h) fill) 0) (eqb (length bs) (sizeOf e h)) t in
+      record {
+        fill = λ i l m. ap (bitAt bs) (omega arith) ∙ fieldAt-zeros bs (endAt e h) fill (eqb→eq _ _ (u .0)) (i - endAt e h) (omega arith);
+        end = eqb→eq (length bs) (sizeOf e h) (u .1);
+      }
+
+  pub ends-right : Ends e h bs → T (endRight e h bs)
+  unfolding endRight
+  ends-right s =
+      rw (eq-eqb _ _ (zeros-fieldAt bs (endAt e h) (sizeOf e h * 8 - endAt e h) (λ i l. s .fill (endAt e h + i) (omega arith) (omega arith))), eq-eqb _ _ (s .end)) tt

@@ -1,0 +1,5 @@
+-- Laws of the picture's layout.
+pub mod Starts
+pub mod Judging
+pub mod Accepted
+pub mod Answering

@@ -1,0 +1,115 @@
+-- Where the fields of a picture stand in its bytes. Assumes nothing.
+use mathlib.Core.Path.{_≡_, refl, sym, ap, _∙_}
+use mathlib.Core.List.{List, [], _∷_}
+use Prim.Native.Nat.{ℕ, zero, suc, _+_, _-_, _*_, _/_, _%_, _^_, _≤_, _<_}
+use native.Mathlib.Omega.{arith}
+use native.Mathlib.Nat.{add-zero, zero-add, not-suc-le-zero}
+use native.Mathlib.Numerals.{add-one}
+use lib.ListN.{length, getD, length-map}
+use lib.Pow.{high, low}
+use Rattle.bits.specs.Bits.{fieldAt}
+use Rattle.bits.proofs.Reading.{fieldAt-lt, fieldAt-join}
+use Rattle.lists.specs.Lists.{range, item, sum}
+use Rattle.lists.proofs.Ranges.{length-range, getD-map-range}
+use Rattle.picture.specs.declared.Header.{Header}
+use Rattle.picture.specs.declared.Link.{Link}
+use Rattle.picture.specs.Layout.{Edition, edition1, slotWidths, endpointWidths, linkWidths, serviceWidths, headerWidths, fieldIn, slotsAt, endpointsAt, linksAt, servicesAt, endAt, sizeOf}
+use Rattle.picture.specs.Picture.{Slot, Endpoint, Picture, slotAt, endpointAt, linkAt, rows, pictureWith, slotOf, endpointOf}
+use Rattle.picture.specs.Rules.{Limited, noLink}
+
+-- ---- the first two fields of a run of fields
+
+pub field-first : (bs : List ℕ) (a : ℕ) (ws : List ℕ) (p : ℕ) → fieldIn bs (a ∷ ws) p 0 ≡ fieldAt bs p a
+unfolding fieldIn sum
+field-first bs a ws p = ap (λ (q : ℕ). fieldAt bs q a) (add-zero p)
+
+pub field-second : (bs : List ℕ) (a b : ℕ) (ws : List ℕ) (p : ℕ) → fieldIn bs (a ∷ b ∷ ws) p 1 ≡ fieldAt bs (p + a) b
+unfolding fieldIn sum
+field-second bs a b ws p = ap (λ (q : ℕ). fieldAt bs (p + q) b) (add-zero a)
+
+-- two adjacent fields, read as one of their joint width, are its two halves
+pub link-halves : (bs : List ℕ) (a b p : ℕ) {v : ℕ} → v ≡ fieldAt bs p (a + b) → _≡_ {A = Link} (record { from = v / 2 ^ b; to = v % 2 ^ b }) (linkAt (a ∷ b ∷ []) bs p)
+unfolding linkAt
+link-halves bs a b p {v} e =
+    let joined : v ≡ fieldAt bs p a * 2 ^ b + fieldAt bs (p + a) b = e ∙ fieldAt-join bs p a b in
+    let first : v / 2 ^ b ≡ fieldIn bs (a ∷ b ∷ []) p 0 = ap (λ (x : ℕ). x / 2 ^ b) joined ∙ high (fieldAt bs p a) b (fieldAt-lt bs (p + a) b) ∙ sym (field-first bs a (b ∷ []) p) in
+    let second : v % 2 ^ b ≡ fieldIn bs (a ∷ b ∷ []) p 1 = ap (λ (x : ℕ). x % 2 ^ b) joined ∙ low (fieldAt bs p a) b (fieldAt-lt bs (p + a) b) ∙ sym (field-second bs a b [] p) in
+    λ i. record { from = first i; to = second i }
+
+-- ---- rows
+
+pub length-rows : {A : Type 0} (f : ℕ → A) (p w k : ℕ) → length (rows f p w k) ≡ k
+unfolding rows
+length-rows f p w k = length-map (range 0 k) (λ i. f (p + i * w)) ∙ length-range 0 k
+
+pub row-at : {A : Type 0} (f : ℕ → A) (d : A) (p w k i : ℕ) → i < k → getD (rows f p w k) i d ≡ f (p + i * w)
+unfolding rows
+row-at f d p w k i h = getD-map-range (λ i. f (p + i * w)) d 0 k i h ∙ ap (λ (j : ℕ). f (p + j * w)) (zero-add i)
+
+-- rows that are counted from 1
+pub item-row : {A : Type 0} (f : ℕ → A) (d : A) (p w k v : ℕ) → 1 ≤ v → v ≤ k → item (rows f p w k) v d ≡ f (p + (v - 1) * w)
+unfolding item
+item-row f d p w k zero l h = absurd (not-suc-le-zero l)
+item-row f d p w k (suc i) l h = row-at f d p w k i h ∙ ap (λ (j : ℕ). f (p + j * w)) less
+  where
+    less : i ≡ suc i - 1
+    less = omega arith
+
+-- an element counted from 1 is one counted from 0
+pub item-next : {A : Type 0} (l : List A) (i : ℕ) (d : A) → item l (i + 1) d ≡ getD l i d
+unfolding item
+item-next l i d = rw add-one
+
+module _ (e : Edition) (h : Header) (bs : List ℕ) where
+  pub slot-row : (v : ℕ) → 1 ≤ v → v ≤ h .slots → slotOf (pictureWith e h bs) v ≡ slotAt bs (slotsAt e + (v - 1) * sum slotWidths)
+  unfolding slotOf pictureWith
+  slot-row v l m = item-row (slotAt bs) _ (slotsAt e) (sum slotWidths) (h .slots) v l m
+
+  pub endpoint-row : (c : ℕ) → 1 ≤ c → c ≤ h .endpoints → endpointOf (pictureWith e h bs) c ≡ endpointAt bs (endpointsAt e h + (c - 1) * sum endpointWidths)
+  unfolding endpointOf pictureWith
+  endpoint-row c l m = item-row (endpointAt bs) _ (endpointsAt e h) (sum endpointWidths) (h .endpoints) c l m
+
+  pub link-row : (i : ℕ) → i < h .links → getD (pictureWith e h bs .links) i noLink ≡ linkAt (linkWidths e) bs (linksAt e h + i * sum (linkWidths e))
+  unfolding pictureWith
+  link-row i l = row-at (linkAt (linkWidths e) bs) noLink (linksAt e h) (sum (linkWidths e)) (h .links) i l
+
+  pub service-row : (i : ℕ) → i < h .«service_links» → getD (pictureWith e h bs .services) i noLink ≡ linkAt (serviceWidths e) bs (servicesAt e h + i * sum (serviceWidths e))
+  unfolding pictureWith
+  service-row i l = row-at (linkAt (serviceWidths e) bs) noLink (servicesAt e h) (sum (serviceWidths e)) (h .«service_links») i l
+
+  pub slots-length : length (pictureWith e h bs .slots) ≡ h .slots
+  unfolding pictureWith
+  slots-length = length-rows (slotAt bs) (slotsAt e) (sum slotWidths) (h .slots)
+
+  pub endpoints-length : length (pictureWith e h bs .endpoints) ≡ h .endpoints
+  unfolding pictureWith
+  endpoints-length = length-rows (endpointAt bs) (endpointsAt e h) (sum endpointWidths) (h .endpoints)
+
+  pub links-length : length (pictureWith e h bs .links) ≡ h .links
+  unfolding pictureWith
+  links-length = length-rows (linkAt (linkWidths e) bs) (linksAt e h) (sum (linkWidths e)) (h .links)
+
+  pub services-length : length (pictureWith e h bs .services) ≡ h .«service_links»
+  unfolding pictureWith
+  services-length = length-rows (linkAt (serviceWidths e) bs) (servicesAt e h) (sum (serviceWidths e)) (h .«service_links»)
+
+-- ---- places are small numbers, in their order
+
+pub record Ordered (h : Header) : Type 0 where
+  pub endpoints : endpointsAt edition1 h ≤ linksAt edition1 h
+  pub links : linksAt edition1 h ≤ servicesAt edition1 h
+  pub services : servicesAt edition1 h ≤ endAt edition1 h
+  pub small : endAt edition1 h < 2 ^ 20
+
+pub ordered : (h : Header) → Limited h → Ordered h
+unfolding endpointsAt linksAt servicesAt endAt slotsAt headerWidths slotWidths endpointWidths linkWidths serviceWidths sum
+ordered h l = record { endpoints = omega arith; links = omega arith; services = omega arith; small = omega (arith, l .counts) }
+
+-- the size in bytes has room for every field, and for fewer than eight fill bits
+pub record Rounded (h : Header) : Type 0 where
+  pub room : endAt edition1 h ≤ sizeOf edition1 h * 8
+  pub tight : sizeOf edition1 h * 8 ≤ endAt edition1 h + 7
+
+pub rounded : (h : Header) → Rounded h
+unfolding sizeOf
+rounded h = record { room = omega arith; tight = omega arith }

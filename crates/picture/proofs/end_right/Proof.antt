@@ -1,0 +1,81 @@
+-- `end_right` tests the fill bits and the end. Assumes nothing.
+use mathlib.Core.Path.{_≡_, refl, sym, ap, ap₂, _∙_}
+use native.Mathlib.Omega.{arith}
+use Prim.Native.Nat.{ℕ, _+_, _-_, _*_, _^_, _≤_, _<_}
+use mathlib.Core.Bool.{Bool, _&&_}
+use lib.Dec.{eqb}
+use lib.ListN.{length}
+use borrow.Author.Tests.{eq-eqb, ne-eqb}
+use Rattle.bits.specs.Bits.{fieldAt}
+use Rattle.picture.specs.Layout.{edition1, endAt, placesOf, sizeOf}
+use Rattle.picture.specs.declared.Header.{Header}
+use Rattle.picture.specs.declared.Places.{Places}
+use Rattle.picture.specs.Faults.{endRight}
+use Rattle.picture.proofs.Starts.{ordered, rounded}
+use borrow.Author.Needs.{needs}
+use Rattle.picture.proofs.end_right.Statement.{statement}
+use Rattle.picture.proofs.end_right.Tie as tie
+
+-- what was found of the size and the end
+record Sized (h : Header) (z f : ℕ) : Type 0 where
+  pub size : z ≡ sizeOf edition1 h
+  pub end : f ≡ endAt edition1 h
+  pub room : f ≤ z * 8
+  pub tight : z * 8 ≤ f + 7
+  pub small : f < 2 ^ 20
+
+sized : (c : tie.After-find-places) → Sized (c .before .before .before .args .h) (c .before .size-of .result) (c .find-places .result .end)
+unfolding placesOf
+sized c =
+    let h = c .before .before .before .args .h in
+    let z = c .before .size-of .ensures in
+    let e = ap (λ (p : Places). p .end) (c .find-places .ensures) in
+    let r = rounded h in
+    let o = ordered h (c .before .before .before .pre) in
+    record { size = z; end = e; room = omega arith; tight = omega arith; small = omega arith }
+
+-- the fill bits as they were read
+fill : (c : tie.After-field) → c .field .result ≡ fieldAt (c .before .before .before .before .args .s .now) (endAt edition1 (c .before .before .before .before .args .h)) (sizeOf edition1 (c .before .before .before .before .args .h) * 8 - endAt edition1 (c .before .before .before .before .args .h))
+fill c =
+    let k = sized (c .before) in
+    c .field .ensures ∙ ap₂ (λ (e z : ℕ). fieldAt (c .before .before .before .before .args .s .now) e (z * 8 - e)) (k .end) (k .size)
+
+size-of-requires : tie.Need-size-of-requires
+size-of-requires c κs = search needs
+
+find-places-requires : tie.Need-find-places-requires
+find-places-requires c κs = search needs
+
+mul-field : tie.Need-mul-field
+mul-field c = omega (arith, sized c)
+
+sub-field : tie.Need-sub-field
+sub-field c = omega (arith, sized c)
+
+field-requires : tie.Need-field-requires
+field-requires c κs = omega (arith, sized c)
+
+returns : tie.Need-returns
+unfolding endRight
+returns c = 
+    let a = c .before .before .before .before .before .args in
+    sym (ap (λ (b : Bool). b && eqb (length (a .s .now)) (sizeOf edition1 (a .h))) (ne-eqb _ _ (λ z. c .if1 .taken (fill (c .before) ∙ z))))
+
+returns-2 : tie.Need-returns-2
+unfolding endRight
+returns-2 c = 
+    let a = c .before .before .before .before .before .args in
+    ap (eqb (length (a .s .now))) (sized (c .before .before) .size)
+    ∙ sym (ap (λ (b : Bool). b && eqb (length (a .s .now)) (sizeOf edition1 (a .h))) (eq-eqb _ _ (sym (fill (c .before)) ∙ c .if1 .left)))
+
+pub end-right-spec : {M : Type 1} → statement M
+end-right-spec =
+    tie.close
+    (tie.spec
+    size-of-requires
+    find-places-requires
+    mul-field
+    sub-field
+    field-requires
+    returns
+    returns-2)

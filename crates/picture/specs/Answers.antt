@@ -1,0 +1,16 @@
+-- What reading a picture answers, by document 01's numbers. Assumes nothing.
+use mathlib.Core.List.{List}
+use Prim.Native.Nat.{ℕ, zero, suc}
+use Rattle.picture.specs.declared.Header.{Header}
+use Rattle.picture.specs.declared.Reading.{Reading}
+use Rattle.picture.specs.declared.Reading.the-variants.{Accepted, Refused}
+use Rattle.picture.specs.Picture.{headerOf}
+use Rattle.picture.specs.Faults.{pictureFault}
+
+-- 0 is accepted, with the header's numbers; any other number is a refusal, which gives its number and nothing else
+unfoldable pub readingOf : ℕ → Header → Reading
+readingOf zero h = Accepted h
+readingOf (suc k) h = Refused (suc k)
+
+unfoldable pub reading : List ℕ → Reading
+reading bs = readingOf (pictureFault bs) (headerOf bs)

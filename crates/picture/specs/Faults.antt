@@ -1,0 +1,65 @@
+-- The number of a picture's first fault, in the order of document 01. Assumes nothing.
+use mathlib.Core.Bool.{Bool, not, _&&_, _||_}
+use mathlib.Core.List.{List, [], _∷_, map}
+use Prim.Native.Nat.{ℕ, _-_, _*_, _/_, _%_}
+use lib.Dec.{eqb, leb, ltb}
+use lib.ListN.{length}
+use Rattle.bits.specs.Bits.{fieldAt}
+use Rattle.lists.specs.Lists.{on, first}
+use Rattle.picture.specs.declared.Header.{Header}
+use Rattle.picture.specs.declared.Link.{Link}
+use Rattle.picture.specs.Layout.{Edition, editionOf, headerWidths, fieldIn, blockSizeMax, blocksMax, endpointsMax, linksMax, noState, leastBytes, endAt, sizeOf}
+use Rattle.picture.specs.Picture.{Slot, Picture, headerIn, pictureWith}
+
+-- 3: β is 1 to 8; n is 1 to its limit, a multiple of β with n/β at most 60
+unfoldable pub sizesRight : Edition → Header → Bool
+sizesRight e h =
+    leb 1 (h .«block_size») && (leb (h .«block_size») blockSizeMax && (leb 1 (h .slots) && (leb (h .slots) (e .slotsMax)
+    && (eqb (h .slots % h .«block_size») 0 && leb (h .slots / h .«block_size») blocksMax))))
+
+-- 4: D is at most 200; L and S are at most 2000
+unfoldable pub countsRight : Header → Bool
+countsRight h = leb (h .endpoints) endpointsMax && (leb (h .links) linksMax && leb (h .«service_links») linksMax)
+
+-- 5: a state is none of the three
+unfoldable pub slotFault : Slot → ℕ
+slotFault s = on (eqb (s .state) noState) 5
+
+-- 6: an end of a link is above n
+unfoldable pub linkFault : ℕ → Link → ℕ
+linkFault n l = on (ltb n (l .from) || ltb n (l .to)) 6
+
+-- 6: the location of a service link is above n, or its endpoint is 0 or above D
+unfoldable pub serviceFault : ℕ → ℕ → Link → ℕ
+serviceFault n d l = on (ltb n (l .from) || (eqb (l .to) 0 || ltb d (l .to))) 6
+
+-- 7: the fill bits up to the byte are zero, and then the picture ends
+unfoldable pub endRight : Edition → Header → List ℕ → Bool
+endRight e h bs = eqb (fieldAt bs (endAt e h) (sizeOf e h * 8 - endAt e h)) 0 && eqb (length bs) (sizeOf e h)
+
+-- the faults of the parts after the header, each its number or 0: states in order (5), links and then service links (6), fill bits or
+-- extra bytes (7)
+unfoldable pub partFaults : Edition → Header → Picture → List ℕ → List ℕ
+partFaults e h p bs =
+    first (map slotFault (p .slots))
+    ∷ first (map (linkFault (h .slots)) (p .links))
+    ∷ first (map (serviceFault (h .slots) (h .endpoints)) (p .services))
+    ∷ on (not (endRight e h bs)) 7
+    ∷ []
+
+-- all faults in their order: under 7 bytes (1), 2, 3, 4, shorter than the header says (1), and then the parts'
+unfoldable pub faultsWith : Edition → Header → Picture → List ℕ → List ℕ
+faultsWith e h p bs =
+    on (ltb (length bs) leastBytes) 1
+    ∷ on (not (eqb (fieldIn bs (headerWidths e) 0 0) (e .number))) 2
+    ∷ on (not (sizesRight e h)) 3
+    ∷ on (not (countsRight h)) 4
+    ∷ on (ltb (length bs) (sizeOf e h)) 1
+    ∷ partFaults e h p bs
+
+-- the number of the first fault, or 0 where the picture is accepted
+unfoldable pub pictureFault : List ℕ → ℕ
+pictureFault bs =
+    let e : Edition = editionOf bs in
+    let h : Header = headerIn e bs in
+    first (faultsWith e h (pictureWith e h bs) bs)

@@ -1,0 +1,99 @@
+-- The layout of a picture: the widths of its fields in their order, where each part starts, and its limits. Assumes nothing.
+use mathlib.Core.List.{List, [], _∷_}
+use Prim.Native.Nat.{ℕ, _+_, _*_, _/_}
+use lib.ListN.{getD, take}
+use Rattle.bits.specs.Bits.{fieldAt}
+use Rattle.lists.specs.Lists.{sum}
+use Rattle.picture.specs.declared.Header.{Header}
+use Rattle.picture.specs.declared.Places.{Places}
+
+-- an edition: its number; the widths of n, of κ and of a location; the largest n
+pub record Edition : Type 0 where
+  pub number : ℕ
+  pub slotsBits : ℕ
+  pub nearLimitBits : ℕ
+  pub locationBits : ℕ
+  pub slotsMax : ℕ
+
+abbrev pub edition1 : Edition
+edition1 = record { number = 1; slotsBits = 8; nearLimitBits = 8; locationBits = 8; slotsMax = 240 }
+
+-- the edition that the bytes are read by: there is one. A second one is told here, by the first field
+abbrev pub editionOf : List ℕ → Edition
+editionOf bs = edition1
+
+-- ---- widths, in the order of the fields
+
+-- header: edition, β, n, κ, D, L, S
+unfoldable pub headerWidths : Edition → List ℕ
+headerWidths e = 4 ∷ 4 ∷ e .slotsBits ∷ e .nearLimitBits ∷ 8 ∷ 12 ∷ 12 ∷ []
+
+-- a slot: state, near
+unfoldable pub slotWidths : List ℕ
+slotWidths = 2 ∷ 1 ∷ []
+
+-- an endpoint (01: cab): weight, protected
+unfoldable pub endpointWidths : List ℕ
+endpointWidths = 16 ∷ 1 ∷ []
+
+-- a link: from, to
+unfoldable pub linkWidths : Edition → List ℕ
+linkWidths e = e .locationBits ∷ e .locationBits ∷ []
+
+-- a service link (01: serving link): location, endpoint
+unfoldable pub serviceWidths : Edition → List ℕ
+serviceWidths e = e .locationBits ∷ 8 ∷ []
+
+-- field k of the fields with these widths that start at bit p, without gaps
+unfoldable pub fieldIn : List ℕ → List ℕ → ℕ → ℕ → ℕ
+fieldIn bs widths p k = fieldAt bs (p + sum (take k widths)) (getD widths k 0)
+
+-- ---- limits
+
+-- β is at most 8
+abbrev pub blockSizeMax : ℕ
+blockSizeMax = 8
+
+-- n/β is at most 60
+abbrev pub blocksMax : ℕ
+blocksMax = 60
+
+-- D is at most 200
+abbrev pub endpointsMax : ℕ
+endpointsMax = 200
+
+-- L and S are at most 2000
+abbrev pub linksMax : ℕ
+linksMax = 2000
+
+-- state 3 is none of held, recoverable and freed
+abbrev pub noState : ℕ
+noState = 3
+
+-- ---- where each part starts, in bits, and the size in bytes
+
+-- under 7 bytes is too short for any edition's header
+abbrev pub leastBytes : ℕ
+leastBytes = 7
+
+unfoldable pub slotsAt : Edition → ℕ
+slotsAt e = sum (headerWidths e)
+
+unfoldable pub endpointsAt : Edition → Header → ℕ
+endpointsAt e h = slotsAt e + h .slots * sum slotWidths
+
+unfoldable pub linksAt : Edition → Header → ℕ
+linksAt e h = endpointsAt e h + h .endpoints * sum endpointWidths
+
+unfoldable pub servicesAt : Edition → Header → ℕ
+servicesAt e h = linksAt e h + h .links * sum (linkWidths e)
+
+unfoldable pub endAt : Edition → Header → ℕ
+endAt e h = servicesAt e h + h .«service_links» * sum (serviceWidths e)
+
+unfoldable pub placesOf : Edition → Header → Places
+placesOf e h = record { endpoints = endpointsAt e h; links = linksAt e h; services = servicesAt e h; end = endAt e h }
+
+-- the bytes that the header asks for, the bits rounded up
+unfoldable pub sizeOf : Edition → Header → ℕ
+sizeOf e h = (endAt e h + 7) / 8

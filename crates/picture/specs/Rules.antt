@@ -1,0 +1,87 @@
+-- The rules of a picture's layout as propositions, in the order of document 01, and what an accepted picture keeps. Assumes nothing.
+use mathlib.Core.List.{List, [], _∷_}
+use mathlib.Core.Path.{_≡_}
+use mathlib.Core.Logic.{_≢_}
+use Prim.Native.Nat.{ℕ, _*_, _/_, _%_, _≤_, _<_}
+use lib.ListN.{length, getD}
+use Rattle.bits.specs.Bits.{bitAt}
+use Rattle.lists.specs.Rules.{Rule}
+use Rattle.picture.specs.declared.Header.{Header}
+use Rattle.picture.specs.declared.Link.{Link}
+use Rattle.picture.specs.Layout.{Edition, edition1, editionOf, headerWidths, fieldIn, blockSizeMax, blocksMax, endpointsMax, linksMax, noState, leastBytes, endAt, sizeOf}
+use Rattle.picture.specs.Picture.{Picture, headerOf, pictureOf, slotOf}
+
+-- "β is 1 to 8; n is 1 to 240, a multiple of β with n/β at most 60"
+pub record Sizes (e : Edition) (h : Header) : Type 0 where
+  pub size-some : 1 ≤ h .«block_size»
+  pub size-most : h .«block_size» ≤ blockSizeMax
+  pub slots-some : 1 ≤ h .slots
+  pub slots-most : h .slots ≤ e .slotsMax
+  pub multiple : h .slots % h .«block_size» ≡ 0
+  pub blocks-most : h .slots / h .«block_size» ≤ blocksMax
+
+-- "D is at most 200; L and S are at most 2000"
+pub record Counts (h : Header) : Type 0 where
+  pub endpoints-most : h .endpoints ≤ endpointsMax
+  pub links-most : h .links ≤ linksMax
+  pub services-most : h .«service_links» ≤ linksMax
+
+-- "For each slot 1 to n: state 2 (0 held, 1 recoverable, 2 freed)"
+pub record States (n : ℕ) (p : Picture) : Type 0 where
+  pub state : (v : ℕ) → 1 ≤ v → v ≤ n → slotOf p v .state ≢ noState
+
+-- a link that no list has, for a place past its end
+abbrev pub noLink : Link
+noLink = record { from = 0; to = 0 }
+
+-- "L links: from 8, to 8, each 0 to n"
+pub record Links (n : ℕ) (p : Picture) : Type 0 where
+  pub from : (i : ℕ) → i < length (p .links) → getD (p .links) i noLink .from ≤ n
+  pub to : (i : ℕ) → i < length (p .links) → getD (p .links) i noLink .to ≤ n
+
+-- "S serving links: location 8 (0 to n), cab 8 (1 to D)"
+pub record Services (n d : ℕ) (p : Picture) : Type 0 where
+  pub location : (i : ℕ) → i < length (p .services) → getD (p .services) i noLink .from ≤ n
+  pub endpoint-some : (i : ℕ) → i < length (p .services) → 1 ≤ getD (p .services) i noLink .to
+  pub endpoint-most : (i : ℕ) → i < length (p .services) → getD (p .services) i noLink .to ≤ d
+
+-- "Zero bits up to the byte, then the end"
+pub record Ends (e : Edition) (h : Header) (bs : List ℕ) : Type 0 where
+  pub fill : (i : ℕ) → endAt e h ≤ i → i < sizeOf e h * 8 → bitAt bs i ≡ 0
+  pub end : length bs ≡ sizeOf e h
+
+-- the rules with their numbers, in the order in which they are judged
+unfoldable pub rulesWith : Edition → Header → Picture → List ℕ → List Rule
+rulesWith e h p bs =
+    record { number = 1; holds = leastBytes ≤ length bs }
+    ∷ record { number = 2; holds = fieldIn bs (headerWidths e) 0 0 ≡ e .number }
+    ∷ record { number = 3; holds = Sizes e h }
+    ∷ record { number = 4; holds = Counts h }
+    ∷ record { number = 1; holds = sizeOf e h ≤ length bs }
+    ∷ record { number = 5; holds = States (h .slots) p }
+    ∷ record { number = 6; holds = Links (h .slots) p }
+    ∷ record { number = 6; holds = Services (h .slots) (h .endpoints) p }
+    ∷ record { number = 7; holds = Ends e h bs }
+    ∷ []
+
+unfoldable pub rules : List ℕ → List Rule
+rules bs = rulesWith (editionOf bs) (headerOf bs) (pictureOf bs) bs
+
+-- every rule is kept: what accepted bytes are
+pub record Kept (bs : List ℕ) : Type 0 where
+  pub header : leastBytes ≤ length bs
+  pub edition : fieldIn bs (headerWidths (editionOf bs)) 0 0 ≡ editionOf bs .number
+  pub sizes : Sizes (editionOf bs) (headerOf bs)
+  pub counts : Counts (headerOf bs)
+  pub long : sizeOf (editionOf bs) (headerOf bs) ≤ length bs
+  pub states : States (headerOf bs .slots) (pictureOf bs)
+  pub links : Links (headerOf bs .slots) (pictureOf bs)
+  pub services : Services (headerOf bs .slots) (headerOf bs .endpoints) (pictureOf bs)
+  pub ends : Ends (editionOf bs) (headerOf bs) bs
+
+-- ---- what the functions that find a field rely on
+
+-- the counts keep their limits, so that no place in the bytes is out of a number's range
+pub record Limited (h : Header) : Type 0 where
+  pub slots : h .slots ≤ edition1 .slotsMax
+  pub counts : Counts h
