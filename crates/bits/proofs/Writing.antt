@@ -76,10 +76,10 @@ patched-join b k w a v =
     let lows : y % 2 ^ k ≡ b % 2 ^ k = down y ∙ ap (λ (z : ℕ). z % 2 ^ k) (patched-low b (k + a) w (v / 2 ^ a)) ∙ sym (down b) in
     let above : b / 2 ^ k / 2 ^ (w + a) ≡ top = shr-shr b k (w + a) ∙ ap (λ (z : ℕ). b / 2 ^ z) joint ∙ sym (shr-shr b (k + a) w) in
     let spread : (top * 2 ^ w + v / 2 ^ a % 2 ^ w) * 2 ^ a ≡ top * 2 ^ (w + a) + v / 2 ^ a % 2 ^ w * 2 ^ a =
-        add-mul (top * 2 ^ w) (v / 2 ^ a % 2 ^ w) (2 ^ a) ∙ ap (λ (z : ℕ). z + v / 2 ^ a % 2 ^ w * 2 ^ a) (mul-assoc top (2 ^ w) (2 ^ a) ∙ ap (λ (z : ℕ). top * z) (sym (pow-add 2 w a))) in
+    add-mul (top * 2 ^ w) (v / 2 ^ a % 2 ^ w) (2 ^ a) ∙ ap (λ (z : ℕ). z + v / 2 ^ a % 2 ^ w * 2 ^ a) (mul-assoc top (2 ^ w) (2 ^ a) ∙ ap (λ (z : ℕ). top * z) (sym (pow-add 2 w a))) in
     let digits : (top * 2 ^ w + v / 2 ^ a % 2 ^ w) * 2 ^ a + v % 2 ^ a ≡ b / 2 ^ k / 2 ^ (w + a) * 2 ^ (w + a) + v % 2 ^ (w + a) =
-        ap (λ (z : ℕ). z + v % 2 ^ a) spread ∙ add-assoc (top * 2 ^ (w + a)) (v / 2 ^ a % 2 ^ w * 2 ^ a) (v % 2 ^ a)
-        ∙ ap₂ (λ (x z : ℕ). x * 2 ^ (w + a) + z) (sym above) (sym (mod-pow-add v w a)) in
+    ap (λ (z : ℕ). z + v % 2 ^ a) spread ∙ add-assoc (top * 2 ^ (w + a)) (v / 2 ^ a % 2 ^ w * 2 ^ a) (v % 2 ^ a)
+    ∙ ap₂ (λ (x z : ℕ). x * 2 ^ (w + a) + z) (sym above) (sym (mod-pow-add v w a)) in
     patched-split y k a v ∙ ap₂ (λ (x z : ℕ). (x * 2 ^ a + v % 2 ^ a) * 2 ^ k + z) high lows ∙ ap (λ (x : ℕ). x * 2 ^ k + b % 2 ^ k) digits ∙ sym (patched-split b k (w + a) v)
   where
     joint : k + (w + a) ≡ k + a + w

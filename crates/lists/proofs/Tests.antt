@@ -1,13 +1,13 @@
 -- Tests as facts. Assumes nothing.
-use mathlib.Core.Path.{_≡_, refl, subst}
+use mathlib.Core.Path.{_≡_, refl, ap₂, subst}
 use mathlib.Core.Bool.{Bool, true, false, not, _&&_, _||_}
 use mathlib.Core.Logic.{_⊎_, inl, inr}
 use mathlib.Core.List.{List, [], _∷_}
 use Prim.Native.Nat.{ℕ, zero, suc, _<_}
 use native.Mathlib.Nat.{le-of-suc-le-suc, not-suc-le-zero}
-use lib.Dec.{T, eqb, eqb-refl}
+use lib.Dec.{T, eqb, eqb→eq, eqb-refl}
 use lib.ListN.{length, getD}
-use Rattle.lists.specs.Lists.{all}
+use Rattle.lists.specs.Lists.{all, equal}
 
 pub and-T : (a b : Bool) → T (a && b) → T a × T b
 and-T true b t = (tt, t)
@@ -47,3 +47,13 @@ unfolding all
 all-at f [] t i h d = absurd (not-suc-le-zero h)
 all-at f (x ∷ l) t zero h d = and-T (f x) (all f l) t .0
 all-at f (x ∷ l) t (suc i) h d = all-at f l (and-T (f x) (all f l) t .1) i (le-of-suc-le-suc h) d
+
+-- lists that are tested equal are the same
+pub equal-same : (xs ys : List ℕ) → T (equal xs ys) → xs ≡ ys
+unfolding equal
+equal-same [] [] t = refl
+equal-same [] (y ∷ ys) t = absurd t
+equal-same (x ∷ xs) [] t = absurd t
+equal-same (x ∷ xs) (y ∷ ys) t =
+    let s : T (eqb x y) × T (equal xs ys) = and-T (eqb x y) (equal xs ys) t in
+    ap₂ (λ (a : ℕ) (l : List ℕ). a ∷ l) (eqb→eq x y (s .0)) (equal-same xs ys (s .1))

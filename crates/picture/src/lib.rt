@@ -13,46 +13,75 @@ ghost use Rattle.picture.specs.Answers.{reading};
 
 // Widths in bits, in the order of the fields.
 const EDITION_BITS: usize = 4;
+
 const BLOCK_SIZE_BITS: usize = 4;
+
 const SLOTS_BITS: usize = 8;
+
 const NEAR_LIMIT_BITS: usize = 8;
+
 const ENDPOINTS_BITS: usize = 8;
+
 const LINKS_BITS: usize = 12;
+
 const STATE_BITS: usize = 2;
+
 const NEAR_BITS: usize = 1;
+
 const WEIGHT_BITS: usize = 16;
+
 const PROTECTED_BITS: usize = 1;
+
 const LOCATION_BITS: usize = 8;
+
 const ENDPOINT_BITS: usize = 8;
 
 // Where the fields of the header start.
 const BLOCK_SIZE_AT: usize = EDITION_BITS;
+
 const SLOTS_AT: usize = BLOCK_SIZE_AT + BLOCK_SIZE_BITS;
+
 const NEAR_LIMIT_AT: usize = SLOTS_AT + SLOTS_BITS;
+
 const ENDPOINTS_AT: usize = NEAR_LIMIT_AT + NEAR_LIMIT_BITS;
+
 const LINKS_AT: usize = ENDPOINTS_AT + ENDPOINTS_BITS;
+
 const SERVICE_LINKS_AT: usize = LINKS_AT + LINKS_BITS;
+
 const HEADER_BITS: usize = SERVICE_LINKS_AT + LINKS_BITS;
 
 // A row of each of the four lists.
 const SLOT_ROW: usize = STATE_BITS + NEAR_BITS;
+
 const ENDPOINT_ROW: usize = WEIGHT_BITS + PROTECTED_BITS;
+
 const LINK_ROW: usize = LOCATION_BITS + LOCATION_BITS;
+
 const SERVICE_ROW: usize = LOCATION_BITS + ENDPOINT_BITS;
 
 // Limits.
 const EDITION: usize = 1;
+
 const LEAST_BYTES: usize = 7;
+
 pub const BLOCK_SIZE_MAX: usize = 8;
+
 pub const SLOTS_MAX: usize = 240;
+
 pub const BLOCKS_MAX: usize = 60;
+
 pub const ENDPOINTS_MAX: usize = 200;
+
 pub const LINKS_MAX: usize = 2000;
 
 // States of a slot; NO_STATE is the fourth pattern of its two bits.
 pub const HELD: usize = 0;
+
 pub const RECOVERABLE: usize = 1;
+
 pub const FREED: usize = 2;
+
 const NO_STATE: usize = 3;
 
 // The header's numbers: β, n, κ, D, L and S.
@@ -185,7 +214,11 @@ pub fn endpoint_weight(s: &[u8], h: Header, c: usize) -> usize
     requires { ⌜ Limited h × (1 ≤ c) × (c ≤ h .endpoints) ⌝ }
     ensures { λ r. ⌜ r ≡ endpointOf (pictureWith edition1 h (now (s .entry))) c .weight ⌝ }
 {
-    bits::field(s, find_places(h).endpoints + (c - 1) * ENDPOINT_ROW, WEIGHT_BITS)
+    bits::field(
+        s,
+        find_places(h).endpoints + (c - 1) * ENDPOINT_ROW,
+        WEIGHT_BITS,
+    )
 }
 
 // Whether endpoint c is protected.
@@ -193,7 +226,12 @@ pub fn endpoint_protected(s: &[u8], h: Header, c: usize) -> bool
     requires { ⌜ Limited h × (1 ≤ c) × (c ≤ h .endpoints) ⌝ }
     ensures { λ r. ⌜ r ≡ endpointOf (pictureWith edition1 h (now (s .entry))) c .protected ⌝ }
 {
-    bits::field(s, find_places(h).endpoints + (c - 1) * ENDPOINT_ROW + WEIGHT_BITS, PROTECTED_BITS) == 1
+    bits::field(
+        s,
+        find_places(h).endpoints + (c - 1) * ENDPOINT_ROW + WEIGHT_BITS,
+        PROTECTED_BITS,
+    )
+        == 1
 }
 
 // The link at bit p whose ends have these widths, read as one field.
@@ -213,7 +251,12 @@ pub fn nth_link(s: &[u8], h: Header, i: usize) -> Link
     requires { ⌜ Limited h × (i < h .links) ⌝ }
     ensures { λ r. ⌜ r ≡ getD (pictureWith edition1 h (now (s .entry)) .links) i noLink ⌝ }
 {
-    link_at(s, find_places(h).links + i * LINK_ROW, LOCATION_BITS, LOCATION_BITS)
+    link_at(
+        s,
+        find_places(h).links + i * LINK_ROW,
+        LOCATION_BITS,
+        LOCATION_BITS,
+    )
 }
 
 // Service link i, counted from 0.
@@ -221,7 +264,12 @@ pub fn nth_service_link(s: &[u8], h: Header, i: usize) -> Link
     requires { ⌜ Limited h × (i < h .«service_links») ⌝ }
     ensures { λ r. ⌜ r ≡ getD (pictureWith edition1 h (now (s .entry)) .services) i noLink ⌝ }
 {
-    link_at(s, find_places(h).services + i * SERVICE_ROW, LOCATION_BITS, ENDPOINT_BITS)
+    link_at(
+        s,
+        find_places(h).services + i * SERVICE_ROW,
+        LOCATION_BITS,
+        ENDPOINT_BITS,
+    )
 }
 
 // The fault of the first slot without one of the three states.

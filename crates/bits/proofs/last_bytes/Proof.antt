@@ -19,34 +19,26 @@ Inv-loop s k v₀ i₀ v i = (i ≤ 4) × (v ≡ fieldAt s (k * 8) (i * 8))
 abbrev μ-loop : tie.MeasureT-loop
 μ-loop s k v₀ i₀ v i = 4 - i
 
-
 loop-holds : tie.Need-loop-holds Inv-loop μ-loop
 loop-holds c = (zero-le, sym (fieldAt-zero (c .before .args .s .now) (c .before .args .k * 8)))
-
 
 add-if1 : tie.Need-add-if1 Inv-loop μ-loop
 add-if1 c = search needs
 
-
 add-b : tie.Need-add-b Inv-loop μ-loop
 add-b c = search needs
-
 
 shared-slice-read-b : tie.Need-shared-slice-read-b Inv-loop μ-loop
 shared-slice-read-b c = search needs
 
-
 then-byte-requires : tie.Need-then-byte-requires Inv-loop μ-loop
 then-byte-requires c κs = fieldAt-below _ _ _ 24 (c .before .before .loop .inv .1) (omega arith)
-
 
 add-i : tie.Need-add-i Inv-loop μ-loop
 add-i c = search needs
 
-
 loop-less : tie.Need-loop-less Inv-loop μ-loop
 loop-less c = search needs
-
 
 -- the byte that is appended is the one that stands there, or 0 past the end
 byte : (c : tie.Joined1 Inv-loop μ-loop) → c .if1 .b ≡ getD (c .before .before .before .before .args .s .now) (c .before .before .before .before .args .k + c .before .before .loop .i) 0
@@ -58,7 +50,6 @@ loop-again c =
     let l = c .before .before .before .loop in
     let known = c .before .before .before .before .shared-slice-known .given (a .k + l .i) in
     (omega arith, fieldAt-more (a .s .now) (a .k) (l .i) (l .inv .1) (known .fits) (c .then-byte .ensures ∙ ap (λ (b : ℕ). l .v * 256 + b) (byte (c .before))))
-
 
 returns : tie.Need-returns Inv-loop μ-loop
 returns c =

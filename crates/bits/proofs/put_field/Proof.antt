@@ -69,11 +69,12 @@ loop-again c =
     let a = c .before .before .before .before .before .before .before .before .before .args in
     let l = c .before .before .before .before .before .before .before .loop in
     let k = chunk (c .before .before .before .before .before) in
-    let n = c .before .before .before .before .before .if1 .next in
-    (omega (arith, k),
-     c .before .before .put-in-byte .ensures
-     ∙ ap (λ (z : List ℕ). putField z (a .p + l .done) n (a .v / 2 ^ (a .w - l .done - n))) (l .inv .1)
-     ∙ putField-chunk (a .s .now) (a .p) (a .w) (a .v) (l .done) n (omega (arith, k)))
+    let n = c .before .before .before .before .before .if1 .next in (
+      omega (arith, k),
+      c .before .before .put-in-byte .ensures
+          ∙ ap (λ (z : List ℕ). putField z (a .p + l .done) n (a .v / 2 ^ (a .w - l .done - n))) (l .inv .1)
+          ∙ putField-chunk (a .s .now) (a .p) (a .w) (a .v) (l .done) n (omega (arith, k)),
+    )
 
 same-length : tie.Need-same-length Inv-loop μ-loop
 same-length c = kept (c .before)

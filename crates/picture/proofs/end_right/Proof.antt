@@ -57,13 +57,13 @@ field-requires c κs = omega (arith, sized c)
 
 returns : tie.Need-returns
 unfolding endRight
-returns c = 
+returns c =
     let a = c .before .before .before .before .before .args in
     sym (ap (λ (b : Bool). b && eqb (length (a .s .now)) (sizeOf edition1 (a .h))) (ne-eqb _ _ (λ z. c .if1 .taken (fill (c .before) ∙ z))))
 
 returns-2 : tie.Need-returns-2
 unfolding endRight
-returns-2 c = 
+returns-2 c =
     let a = c .before .before .before .before .before .args in
     ap (eqb (length (a .s .now))) (sized (c .before .before) .size)
     ∙ sym (ap (λ (b : Bool). b && eqb (length (a .s .now)) (sizeOf edition1 (a .h))) (eq-eqb _ _ (sym (fill (c .before)) ∙ c .if1 .left)))

@@ -35,7 +35,7 @@ field-requires c κs = search needs
 
 returns : tie.Need-returns
 unfolding placesOf endpointAt endpointWidths sum
-returns c = 
+returns c =
     let a = c .before .before .before .before .args in
     let pre = c .before .before .before .before .pre in
     ap (λ (x : ℕ). eqb x 1) (c .field .ensures ∙ ap (λ (p : Places). fieldAt (a .s .now) (p .endpoints + (a .c - 1) * 17 + 16) 1) (c .before .before .find-places .ensures))

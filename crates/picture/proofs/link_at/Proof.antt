@@ -25,7 +25,7 @@ sub-t8 : tie.Need-sub-t8
 sub-t8 c = mask-made _ (omega arith)
 
 returns : tie.Need-returns
-returns c = 
+returns c =
     let a = c .before .before .args in
     ap (λ (x : ℕ). record { from = c .field .result / 2 ^ a .to-bits; to = x }) (masked (c .field .result) (a .to-bits) (omega arith))
     ∙ link-halves (a .s .now) (a .from-bits) (a .to-bits) (a .p) (c .field .ensures)

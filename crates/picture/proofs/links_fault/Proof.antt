@@ -44,7 +44,7 @@ link-fault-requires : tie.Need-link-fault-requires Inv-loop μ-loop
 link-fault-requires c κs = search needs
 
 returns : tie.Need-returns Inv-loop μ-loop
-returns c = 
+returns c =
     let a = c .before .before .before .before .before .before .args in
     let l = c .before .before .before .before .loop in
     scan-hit (judged (a .h)) noLink (list (a .h) (a .s .now)) (l .i) (l .inv .1) (omega (arith, links-length edition1 (a .h) (a .s .now))) (found (c .before)) (c .if1 .taken)
@@ -56,13 +56,13 @@ loop-less : tie.Need-loop-less Inv-loop μ-loop
 loop-less c = search needs
 
 loop-again : tie.Need-loop-again Inv-loop μ-loop
-loop-again c = 
+loop-again c =
     let a = c .before .before .before .before .before .before .args in
     let l = c .before .before .before .before .loop in
     (omega arith, scan-miss (judged (a .h)) noLink (list (a .h) (a .s .now)) (l .i) (l .inv .1) (sym (found (c .before)) ∙ c .if1 .left))
 
 returns-2 : tie.Need-returns-2 Inv-loop μ-loop
-returns-2 c = 
+returns-2 c =
     let a = c .before .before .before .args in
     let l = c .before .loop in
     scan-ended (judged (a .h)) noLink (list (a .h) (a .s .now)) (l .i) (l .inv .1) (omega (arith, links-length edition1 (a .h) (a .s .now)))

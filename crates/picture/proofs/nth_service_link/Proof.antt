@@ -27,7 +27,7 @@ link-at-requires c κs = search needs
 
 returns : tie.Need-returns
 unfolding placesOf serviceWidths sum
-returns c = 
+returns c =
     let a = c .before .before .before .before .args in
     c .link-at .ensures ∙ ap (λ (p : Places). linkAt (serviceWidths edition1) (a .s .now) (p .services + a .i * 16)) (c .before .before .find-places .ensures)
     ∙ sym (service-row edition1 (a .h) (a .s .now) (a .i) (c .before .before .before .before .pre .1))

@@ -27,7 +27,7 @@ field-requires c κs = search needs
 
 returns : tie.Need-returns
 unfolding slotAt slotsAt headerWidths slotWidths sum
-returns c = 
+returns c =
     let a = c .before .before .args in
     let pre = c .before .before .pre in
     ap (λ (x : ℕ). eqb x 1) (c .field .ensures)

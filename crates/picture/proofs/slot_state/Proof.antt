@@ -22,7 +22,7 @@ field-requires c κs = search needs
 
 returns : tie.Need-returns
 unfolding slotAt slotsAt headerWidths slotWidths sum
-returns c = 
+returns c =
     let a = c .before .before .args in
     let pre = c .before .before .pre in
     c .field .ensures ∙ sym (ap (λ (x : Slot). x .state) (slot-row edition1 (a .h) (a .s .now) (a .v) (pre .1) (pre .2)) ∙ field-first _ _ _ _)

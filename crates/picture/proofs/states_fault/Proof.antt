@@ -50,7 +50,7 @@ slot-state-requires c κs = search needs
 
 returns : tie.Need-returns Inv-loop μ-loop
 unfolding slotFault on
-returns c = 
+returns c =
     let a = c .before .before .before .before .before .args in
     let l = c .before .before .before .loop in
     scan-hit slotFault none (list (a .h) (a .s .now)) (l .i) (l .inv .1) (omega (arith, slots-length edition1 (a .h) (a .s .now)))
@@ -64,13 +64,13 @@ loop-less c = search needs
 
 loop-again : tie.Need-loop-again Inv-loop μ-loop
 unfolding slotFault on
-loop-again c = 
+loop-again c =
     let a = c .before .before .before .before .before .args in
     let l = c .before .before .before .loop in
     (omega arith, scan-miss slotFault none (list (a .h) (a .s .now)) (l .i) (l .inv .1) (fault (c .before) ∙ ap (λ (b : Bool). on b 5) (ne-eqb _ _ (c .if1 .left))))
 
 returns-2 : tie.Need-returns-2 Inv-loop μ-loop
-returns-2 c = 
+returns-2 c =
     let a = c .before .before .before .args in
     let l = c .before .loop in
     scan-ended slotFault none (list (a .h) (a .s .now)) (l .i) (l .inv .1) (omega (arith, slots-length edition1 (a .h) (a .s .now)))

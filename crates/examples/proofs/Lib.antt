@@ -1,0 +1,2 @@
+-- The theorem over the rows of the table.
+pub mod Rows

@@ -1,0 +1,3 @@
+-- The worked examples of document 01.
+pub mod Cases
+pub mod Table
