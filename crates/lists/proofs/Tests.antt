@@ -1,6 +1,6 @@
 -- Tests as facts. Assumes nothing.
 use mathlib.Core.Path.{_≡_, refl, ap₂, subst}
-use mathlib.Core.Bool.{Bool, true, false, not, _&&_, _||_}
+use mathlib.Core.Bool.{Bool, true, false, not, xor, _&&_, _||_}
 use mathlib.Core.Logic.{_⊎_, inl, inr}
 use mathlib.Core.List.{List, [], _∷_}
 use Prim.Native.Nat.{ℕ, zero, suc, _<_}
@@ -37,6 +37,25 @@ not-or false b t = (tt, t)
 pub either : (b : Bool) → T b ⊎ T (not b)
 either true = inl tt
 either false = inr tt
+
+pub T? : (b : Bool) → Dec (T b)
+T? true = yes tt
+T? false = no (λ t. t)
+
+pub is-false : (b : Bool) → ¬ T b → b ≡ false
+is-false true f = absurd (f tt)
+is-false false f = refl
+
+-- a test differs from itself nowhere
+pub xor-self : (a : Bool) → ¬ T (xor a a)
+unfolding xor
+xor-self true t = t
+xor-self false t = t
+
+pub xor-false : (a : Bool) → xor a false ≡ a
+unfolding xor
+xor-false true = refl
+xor-false false = refl
 
 pub eq-T : (a b : ℕ) → a ≡ b → T (eqb a b)
 eq-T a b e = subst (λ (x : ℕ). T (eqb a x)) e (eqb-refl a)

@@ -1,0 +1,157 @@
+-- The sweep of one row, word by word. Assumes nothing.
+use mathlib.Core.Bool.{Bool, true, false, _&&_, xor}
+use mathlib.Core.List.{List}
+use mathlib.Core.Logic.{by-cases}
+use mathlib.Core.Path.{_≡_, refl, _∙_}
+use Prim.Native.Nat.{ℕ, _+_, _*_, _/_, _%_, _≤_, _<_}
+use native.Mathlib.Omega.{arith}
+use native.Mathlib.Decide.{ℕ-discrete}
+use native.Mathlib.Nat.{le-of-eq}
+use lib.Bits.{bitAnd, bitXor}
+use lib.Dec.{T, eqb, eqb-refl, eqb→eq}
+use lib.ListN.{length, getD, set, length-set}
+use Rattle.rows.specs.Rows.{marked}
+use Rattle.rows.specs.Rows.{inWord}
+use Rattle.graph.specs.Sweeps.{Locations, Ready, Entered, Finds, Sweep, Swept}
+use Rattle.graph.specs.Sweeps.Sweep.{entered, kept}
+use Rattle.lists.proofs.Tests.{T?}
+use Rattle.rows.proofs.Digits.{digit-and, digit-xor}
+use Rattle.rows.proofs.Words.{both-words, common-words, none-in-zero}
+use Rattle.rows.proofs.Parts.{done, done-none, done-marks, marks-done}
+use Rattle.rows.proofs.Marks.{mark-is, mark-here, mark-other, word-marked, marked-word, fromWord, from-first, from-past, from-part, row-picked}
+use Rattle.graph.proofs.Sweeps.{sweep-fresh, swept-none, swept-then, swept-as, row-joined}
+
+-- what two tests have in common, taken from the second
+xor-both : (a b : Bool) → T a → T b → xor b (a && b) ≡ false
+unfolding xor
+xor-both true true s t = refl
+xor-both true false s t = absurd t
+xor-both false b s t = absurd s
+
+xor-not-both : (a b : Bool) → (T a → T b → ⊥) → xor b (a && b) ≡ b
+unfolding xor
+xor-not-both true true f = absurd (f tt tt)
+xor-not-both true false f = refl
+xor-not-both false true f = refl
+xor-not-both false false f = refl
+
+module _ (row fresh : List ℕ) (i : ℕ) where
+  -- what word i of the row and the fresh slots have in common
+  abbrev pub common : ℕ
+  common = bitAnd (getD row i 0) (getD fresh i 0)
+
+  -- it is marked in both
+  pub common-marked : (v : ℕ) → T (inWord common (i * 64) v) → (v / 64 ≡ i) × T (marked row v) × T (marked fresh v)
+  common-marked v t =
+      let s = common-words (getD row i 0) (getD fresh i 0) (i * 64) v t in
+      let r = word-marked row i v (s .0) in
+      (r .0, r .1, word-marked fresh i v (s .1) .1)
+
+  pub marked-common : (v : ℕ) → T (inWord (getD row i 0) (i * 64) v) → T (marked fresh v) → T (inWord common (i * 64) v)
+  marked-common v s t =
+      both-words (getD row i 0) (getD fresh i 0) (i * 64) v s (marked-word fresh i v (word-marked row i v s .0) t)
+
+  -- the entries that are made are of locations
+  pub common-locations : Locations (marked fresh) → Locations (inWord common (i * 64))
+  common-locations l = record { within = λ v t. l .within v (common-marked v t .2) }
+
+  module _ (u d : ℕ) (parent depth : List ℕ) (ready : Ready fresh parent depth) where
+    -- nothing in common: the word is passed over
+    pub word-passed : common ≡ 0 → Swept (eqb u) (λ _. inWord (getD row i 0) (i * 64)) d fresh parent depth fresh parent depth
+    word-passed z =
+        record { ready = ready; slot = λ v. kept (λ t w c. none-in-zero common (i * 64) z v (marked-common v (c .link) t)) }
+
+    -- what is in common is entered, and is fresh no more
+    module _ (low : i < length fresh) (parent′ depth′ : List ℕ) (e : Entered (inWord common (i * 64)) u d parent depth parent′ depth′) where
+      abbrev fresh′ : List ℕ
+      fresh′ = set fresh i (bitXor (getD fresh i 0) common)
+
+      -- the fresh slots lose what the row marks
+      cleared : (v : ℕ) → v / 64 ≡ i → marked fresh′ v ≡ xor (marked fresh v) (marked row v && marked fresh v)
+      cleared v q =
+          mark-here fresh i (bitXor (getD fresh i 0) common) low v q ∙ digit-xor (getD fresh i 0) common (v % 64)
+          ∙ rw (digit-and (getD row i 0) (getD fresh i 0) (v % 64), ← mark-is fresh i v q, ← mark-is row i v q)
+
+      Slot : ℕ → Type 0
+      Slot v = Sweep (Finds (eqb u) (λ _. inWord (getD row i 0) (i * 64)) v) d (marked fresh v) (getD parent v 0) (getD depth v 0) (marked fresh′ v) (getD parent′ v 0) (getD depth′ v 0)
+
+      new-slot : (v : ℕ) → T (inWord common (i * 64) v) → Slot v
+      unfolding Slot
+      new-slot v t =
+          let s = common-marked v t in
+          rw (cleared v (s .0), xor-both (marked row v) (marked fresh v) (s .1) (s .2), e .new-parent v t, e .new-depth v t)
+          (entered (s .2)
+          (record {
+            found = record { there = eqb-refl u; link = common-words (getD row i 0) (getD fresh i 0) (i * 64) v t .0 };
+            lowest = λ w c. le-of-eq (eqb→eq u w (c .there));
+          }))
+
+      same : (v : ℕ) → ¬ T (inWord common (i * 64) v) → marked fresh′ v ≡ marked fresh v
+      same v n =
+          by-cases
+          (ℕ-discrete (v / 64) i)
+          (λ q. cleared v q ∙ xor-not-both (marked row v) (marked fresh v) (λ r f. n (marked-common v (marked-word row i v q r) f)))
+          (mark-other fresh i (bitXor (getD fresh i 0) common) v)
+
+      old-slot : (v : ℕ) → ¬ T (inWord common (i * 64) v) → Slot v
+      unfolding Slot
+      old-slot v n = rw (same v n, e .old-parent v n, e .old-depth v n) (kept (λ t w c. n (marked-common v (c .link) t)))
+
+      slots : (v : ℕ) → Slot v
+      slots v = by-cases (T? (inWord common (i * 64) v)) (new-slot v) (old-slot v)
+
+      pub word-swept : Swept (eqb u) (λ _. inWord (getD row i 0) (i * 64)) d fresh parent depth fresh′ parent′ depth′
+      unfolding Slot
+      word-swept =
+          record {
+            ready =
+                record {
+                  words = simp length-set (ready .words);
+                  locations = record { within = λ v t. ready .locations .within v (sweep-fresh (slots v) t) };
+                  whole = e .whole;
+                };
+            slot = slots;
+          }
+
+-- ---- the loop over the words
+
+-- the marks of the words below i are swept
+pub record Sweeping (row : List ℕ) (u d i : ℕ) (fresh₀ parent₀ depth₀ fresh parent depth : List ℕ) : Type 0 where
+  pub low : i ≤ 4
+  pub words : length row ≡ 4
+  pub swept : Swept (eqb u) (λ _. done (marked row) (fromWord i (marked row))) d fresh₀ parent₀ depth₀ fresh parent depth
+
+module _ {row : List ℕ} {u d : ℕ} {fresh₀ parent₀ depth₀ : List ℕ} where
+  pub begun : length row ≡ 4 → Ready fresh₀ parent₀ depth₀ → Sweeping row u d 0 fresh₀ parent₀ depth₀ fresh₀ parent₀ depth₀
+  begun l ready =
+      record {
+        low = omega arith;
+        words = l;
+        swept = swept-none _ _ ready (λ v w f. done-none _ _ (from-first (marked row)) v (f .link));
+      }
+
+  module _ {i : ℕ} {fresh parent depth : List ℕ} (s : Sweeping row u d i fresh₀ parent₀ depth₀ fresh parent depth) where
+    next : {fresh′ parent′ depth′ : List ℕ} → i < 4 → Swept (eqb u) (λ _. inWord (getD row i 0) (i * 64)) d fresh parent depth fresh′ parent′ depth′
+        → Sweeping row u d (i + 1) fresh₀ parent₀ depth₀ fresh′ parent′ depth′
+    next l w =
+        record {
+          low = omega arith;
+          words = s .words;
+          swept = swept-then (row-joined (from-part i (marked row)) (row-picked row i) u) (s .swept) w;
+        }
+
+    pub miss : i < 4 → common row fresh i ≡ 0 → Sweeping row u d (i + 1) fresh₀ parent₀ depth₀ fresh parent depth
+    miss l z = next l (word-passed row fresh i u d parent depth (s .swept .ready) z)
+
+    pub hit : {parent′ depth′ : List ℕ} → i < 4 → Entered (inWord (common row fresh i) (i * 64)) u d parent depth parent′ depth′
+        → Sweeping row u d (i + 1) fresh₀ parent₀ depth₀ (set fresh i (bitXor (getD fresh i 0) (common row fresh i))) parent′ depth′
+    hit l e =
+        next l (word-swept row fresh i u d parent depth (s .swept .ready) (omega (arith, s .swept .ready .words)) _ _ e)
+
+    pub ended : 4 ≤ i → Swept (eqb u) (λ _. marked row) d fresh₀ parent₀ depth₀ fresh parent depth
+    ended l =
+        let none = from-past row i (omega (arith, s .words)) in
+        swept-as
+        (λ v w f. record { there = f .there; link = done-marks _ _ none v (f .link) })
+        (λ v w f. record { there = f .there; link = marks-done _ _ none v (f .link) })
+        (s .swept)

@@ -1,0 +1,107 @@
+-- The walk over rows of words: its levels, and the forest that it ends with. Assumes nothing.
+use mathlib.Core.Bool.{xor, _||_}
+use mathlib.Core.List.{List}
+use mathlib.Core.Logic.{_⊎_, by-cases, ⊎-elim}
+use mathlib.Core.Path.{_≡_, refl, ap, _∙_}
+use Prim.Native.Nat.{ℕ, zero, suc, _+_, _≤_, _<_, zero-le}
+use native.Mathlib.Omega.{arith}
+use native.Mathlib.Decide.{ℕ-discrete}
+use native.Mathlib.Numerals.{add-one}
+use lib.Bits.{bitOr}
+use lib.Dec.{T, eqb, eqb→eq}
+use lib.ListN.{length, getD, set, replicate, length-replicate}
+use Rattle.rows.specs.Rows.{marked, linkedIn}
+use Rattle.graph.specs.Held.{heldIn, SlotsOnly}
+use Rattle.graph.specs.Steps.{Walked}
+use Rattle.rows.specs.Rows.{Differ}
+use Rattle.graph.specs.Sweeps.{Locations, Ready, Swept}
+use Rattle.lists.proofs.Tests.{is-false, or-T, T-or-l, T-or-r, eq-T}
+use Rattle.graph.proofs.Chains.{chain-within, origin-fewest}
+use Rattle.graph.proofs.Forests.{fewest-reached}
+use Rattle.graph.proofs.Levels.{Levels, levels-begun, levels-next, levels-entry, levels-origin, taken-reached, reached-taken}
+use Rattle.rows.proofs.Marks.{with-origin, none-marked}
+use Rattle.graph.proofs.Held.{slot-held, held-within}
+
+-- d levels are walked
+pub record Walking (links : List (List ℕ)) (held : List ℕ) (d : ℕ) (frontier fresh parent depth : List ℕ) : Type 0 where
+  pub low : d ≤ 240
+  pub ready : Ready fresh parent depth
+  pub levels : Levels (linkedIn links) (heldIn held) d (marked frontier) (marked fresh) (λ v. getD parent v 0) (λ v. getD depth v 0)
+
+zeros-at : (n v : ℕ) → _≡_ {A = ℕ} (getD (replicate n 0) v 0) 0
+zeros-at zero v = refl
+zeros-at (suc n) zero = refl
+zeros-at (suc n) (suc v) = zeros-at n v
+
+module _ {links : List (List ℕ)} {held : List ℕ} (only : SlotsOnly held) where
+  -- the frontier is the origin
+  pub begun : length held ≡ 4 → Walking links held 0 (set (replicate 4 0) 0 1) held (replicate 241 0) (replicate 241 0)
+  begun l =
+      record {
+        low = zero-le;
+        ready =
+            record {
+              words = l;
+              locations = record { within = only .within };
+              whole = record { parents = length-replicate {A = ℕ} 241 0; depths = length-replicate {A = ℕ} 241 0 };
+            };
+        levels =
+            levels-begun
+            (λ v t. eqb→eq v 0 (rw (origin-alone v) at t))
+            (rw (origin-alone 0) tt)
+            (is-false (marked held 0) (λ t. absurd (omega (arith, only .above 0 t))))
+            (slot-held held)
+            (zeros-at 241)
+            (zeros-at 241);
+      }
+    where
+      origin-alone : (v : ℕ) → marked (set (replicate 4 0) 0 1) v ≡ eqb v 0
+      origin-alone v =
+          with-origin (replicate 4 0) (omega arith) v
+          ∙ ap (λ b. b || eqb v 0) (is-false (marked (replicate 4 0) v) (none-marked (replicate 4 0) 4 (omega arith) (λ j h. zeros-at 4 j) v))
+
+  module _ {d : ℕ} {frontier fresh parent depth : List ℕ} (w : Walking links held d frontier fresh parent depth) where
+    -- what the frontier marks ends a chain, so it is a location
+    pub frontier-locations : Locations (marked frontier)
+    frontier-locations =
+        record { within = λ v t. chain-within 240 (held-within only) (w .levels .edge .deep v t .chain) }
+
+    -- one more level is swept
+    pub next : {frontier′ fresh′ parent′ depth′ : List ℕ} → d < 240 → Swept (marked frontier) (linkedIn links) (d + 1) fresh parent depth fresh′ parent′ depth′
+        → Differ fresh fresh′ frontier′ → Walking links held (d + 1) frontier′ fresh′ parent′ depth′
+    next l s t =
+        record {
+          low = omega arith;
+          ready = s .ready;
+          levels = rw add-one (levels-next (w .levels) (rw add-one at (s .slot)) (t .marks));
+        }
+
+    -- the frontier is empty or the levels are as many as the slots: what is taken from the held slots is reached, with the origin
+    pub ended : {row : List ℕ} → 0 < length row → Differ held fresh row → ((v : ℕ) → ¬ T (marked frontier v)) ⊎ (240 ≤ d)
+        → Walked (linkedIn links) (heldIn held) (marked (set row 0 (bitOr (getD row 0 0) 1))) parent depth
+    ended {row} l t over =
+        record {
+          entry = levels-entry (w .levels) 240 (held-within only) over;
+          parent-origin = levels-origin (w .levels) .0;
+          depth-origin = levels-origin (w .levels) .1;
+          marks-reached =
+              λ v m.
+              by-cases
+              (ℕ-discrete v 0)
+              (λ e. rw e (fewest-reached origin-fewest))
+              (λ ne.
+              ⊎-elim
+              (λ x. taken-reached (w .levels) 240 (held-within only) over (omega arith) (rw (row-is v (omega arith)) at x))
+              (λ z. absurd (ne (eqb→eq v 0 z)))
+              (or-T (marked row v) (eqb v 0) (rw (with-origin row l v) at m)));
+          reached-marks =
+              λ v r.
+              rw (with-origin row l v)
+              (by-cases
+              (ℕ-discrete v 0)
+              (λ e. T-or-r (marked row v) (eqb v 0) (eq-T v 0 e))
+              (λ ne. T-or-l (marked row v) (eqb v 0) (rw (row-is v (omega arith)) (reached-taken (w .levels) 240 (held-within only) over (omega arith) r))));
+        }
+      where
+        row-is : (v : ℕ) → 0 < v → marked row v ≡ xor (heldIn held v) (marked fresh v)
+        row-is v p = t .marks v ∙ ap (λ b. xor b (marked fresh v)) (slot-held held v p)

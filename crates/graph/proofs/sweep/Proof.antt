@@ -1,0 +1,81 @@
+-- `sweep` sweeps one row. The invariant: the marks of the words passed are swept. Assumes nothing.
+use mathlib.Core.Logic.{⊎-elim}
+use Prim.Native.Nat.{_-_}
+use native.Mathlib.Omega.{arith}
+use borrow.Author.Needs.{needs}
+use Rattle.graph.proofs.Takes.{Sweeping, common-locations, begun, hit, miss, ended}
+use Rattle.graph.proofs.sweep.Statement.{statement}
+use Rattle.graph.proofs.sweep.Tie as tie
+
+abbrev Inv-loop : tie.InvT-loop
+Inv-loop fresh₀ parent₀ depth₀ u d row k₀ fresh parent depth k = Sweeping row u d k fresh₀ parent₀ depth₀ fresh parent depth
+
+abbrev μ-loop : tie.MeasureT-loop
+μ-loop fresh₀ parent₀ depth₀ u d row k₀ fresh parent depth k = 4 - k
+
+loop-holds : tie.Need-loop-holds Inv-loop μ-loop
+loop-holds c = begun (search needs) (c .pre)
+
+mul-old : tie.Need-mul-old Inv-loop μ-loop
+mul-old c = search needs
+
+element-copy-out-old : tie.Need-element-copy-out-old Inv-loop μ-loop
+element-copy-out-old c = search needs
+
+mul-found : tie.Need-mul-found Inv-loop μ-loop
+mul-found c = search needs
+
+array-read-found : tie.Need-array-read-found Inv-loop μ-loop
+array-read-found c = search needs
+
+mul-fresh : tie.Need-mul-fresh Inv-loop μ-loop
+mul-fresh c = search needs
+
+element-write-fresh : tie.Need-element-write-fresh Inv-loop μ-loop
+element-write-fresh c = search needs
+
+mul-enter : tie.Need-mul-enter Inv-loop μ-loop
+mul-enter c = search needs
+
+enter-requires : tie.Need-enter-requires Inv-loop μ-loop
+enter-requires c κs =
+    let l = c .before .before .before .before .before .loop in
+    let ready = l .inv .swept .ready in
+    (common-locations (c .before .before .before .before .before .before .args .t1) (l .fresh) (l .k) (ready .locations), ready .whole)
+
+add-k : tie.Need-add-k Inv-loop μ-loop
+add-k c = search needs
+
+loop-less : tie.Need-loop-less Inv-loop μ-loop
+loop-less c = search needs
+
+loop-again : tie.Need-loop-again Inv-loop μ-loop
+loop-again c =
+    let i = c .before .before .before .loop .inv in
+    ⊎-elim
+    (λ w. rw (w .4, w .5, w .6) (hit i (omega arith) (w .3 .ensures)))
+    (λ w. rw (w .1, w .2, w .3) (miss i (omega arith) (search needs)))
+    (c .if1 .came)
+
+returns : tie.Need-returns Inv-loop μ-loop
+returns c = ended (c .before .loop .inv) (omega arith)
+
+pub sweep-spec : {M : Type 1} → statement M
+sweep-spec =
+    tie.close
+    (tie.spec
+    Inv-loop
+    μ-loop
+    loop-holds
+    mul-old
+    element-copy-out-old
+    mul-found
+    array-read-found
+    mul-fresh
+    element-write-fresh
+    mul-enter
+    enter-requires
+    add-k
+    loop-less
+    loop-again
+    returns)

@@ -1,0 +1,76 @@
+-- `walk` gives the forest. The invariant: d levels are walked. Assumes nothing.
+use mathlib.Core.Logic.{inl, inr, ⊎-elim}
+use Prim.Native.Nat.{_-_}
+use native.Mathlib.Omega.{arith}
+use borrow.Author.Needs.{needs}
+use Rattle.graph.proofs.Walks.{Walking, begun, frontier-locations, next, ended}
+use Rattle.graph.proofs.walk.Statement.{statement}
+use Rattle.graph.proofs.walk.Tie as tie
+
+abbrev Inv-loop : tie.InvT-loop
+Inv-loop held links parent₀ depth₀ fresh₀ frontier₀ d₀ parent depth fresh frontier d = Walking links held d frontier fresh parent depth
+
+abbrev μ-loop : tie.MeasureT-loop
+μ-loop held links parent₀ depth₀ fresh₀ frontier₀ d₀ parent depth fresh frontier d = 240 - d
+
+array-write-frontier : tie.Need-array-write-frontier Inv-loop μ-loop
+array-write-frontier c = search needs
+
+loop-holds : tie.Need-loop-holds Inv-loop μ-loop
+loop-holds c = begun (c .pre) (search needs)
+
+none-marked-requires : tie.Need-none-marked-requires Inv-loop μ-loop
+none-marked-requires c κs = search needs
+
+add-d : tie.Need-add-d Inv-loop μ-loop
+add-d c = search needs
+
+level-requires : tie.Need-level-requires Inv-loop μ-loop
+level-requires c κs =
+    let l = c .before .before .before .before .before .before .before in
+    (frontier-locations (l .before .pre) (l .loop .inv), l .loop .inv .ready)
+
+differ-requires : tie.Need-differ-requires Inv-loop μ-loop
+differ-requires c κs = search needs
+
+loop-less : tie.Need-loop-less Inv-loop μ-loop
+loop-less c = search needs
+
+loop-again : tie.Need-loop-again Inv-loop μ-loop
+loop-again c =
+    let l = c .before .before .before .before .before .before .before .before .before in
+    next (l .before .pre) (l .loop .inv) (omega arith) (c .before .level .ensures) (c .differ .ensures)
+
+differ-requires-2 : tie.Need-differ-requires-2 Inv-loop μ-loop
+differ-requires-2 c κs = search needs
+
+array-read-reached : tie.Need-array-read-reached Inv-loop μ-loop
+array-read-reached c = search needs
+
+array-write-reached : tie.Need-array-write-reached Inv-loop μ-loop
+array-write-reached c = search needs
+
+returns : tie.Need-returns Inv-loop μ-loop
+returns c =
+    let l = c .before .before in
+    ended (l .before .pre) (l .loop .inv) (search needs) (c .differ2 .ensures)
+    (⊎-elim (λ w. inr (omega arith)) (λ w. inl (w .1 .ensures .empty (rw (w .2 .taken) tt))) (c .before .loop-test .came))
+
+pub walk-spec : {M : Type 1} → statement M
+walk-spec =
+    tie.close
+    (tie.spec
+    Inv-loop
+    μ-loop
+    array-write-frontier
+    loop-holds
+    none-marked-requires
+    add-d
+    level-requires
+    differ-requires
+    loop-less
+    loop-again
+    differ-requires-2
+    array-read-reached
+    array-write-reached
+    returns)

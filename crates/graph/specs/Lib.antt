@@ -1,0 +1,5 @@
+-- The definitions that the contracts of `graph` cite.
+pub mod Chains
+pub mod Held
+pub mod Sweeps
+pub mod Steps

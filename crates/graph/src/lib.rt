@@ -1,0 +1,144 @@
+// A walk over links between locations by levels: the parent and the depth of every slot that chains from the origin reach.
+ghost use lib.Dec.{eqb};
+ghost use Rattle.rows.specs.Rows.{marked, linkedIn, inWord};
+ghost use Rattle.graph.specs.Held.{heldIn, SlotsOnly};
+ghost use Rattle.graph.specs.Steps.{Walked};
+ghost use Rattle.graph.specs.Sweeps.{Locations, Whole, Ready, Entered, Swept};
+
+use rows::{LOCATIONS, WORDS};
+
+pub struct Forest {
+    pub parent: [u8; LOCATIONS],
+    pub depth: [u8; LOCATIONS],
+    pub reached: [u64; WORDS],
+}
+
+// The slots that are marked in a word, of which the first is slot base, get the parent u and the depth d.
+fn enter(
+    parent: &mut [u8; LOCATIONS],
+    depth: &mut [u8; LOCATIONS],
+    word: u64,
+    base: usize,
+    u: u8,
+    d: u8,
+)
+    requires { ⌜ Locations (inWord word base) ⌝ }
+    requires { ⌜ Whole (now parent) (now depth) ⌝ }
+    ensures { λ _.
+        ⌜ Entered (inWord word base) u d
+        (now (parent .entry)) (now (depth .entry)) (now (parent .exit)) (now (depth .exit)) ⌝ }
+{
+    let mut w = word;
+    while w != 0 {
+        let v = base + (u64::trailing_zeros(w) as usize);
+        parent[v] = u;
+        depth[v] = d;
+        w = w & (w - 1);
+    }
+}
+
+// One row: the fresh slots that are marked in it get the parent u and the depth d, and are fresh no more.
+fn sweep(
+    row: [u64; WORDS],
+    fresh: &mut [u64; WORDS],
+    parent: &mut [u8; LOCATIONS],
+    depth: &mut [u8; LOCATIONS],
+    u: u8,
+    d: u8,
+)
+    requires { ⌜ Ready (now fresh) (now parent) (now depth) ⌝ }
+    ensures { λ _.
+        ⌜ Swept (eqb u) (λ _. marked row) d
+        (now (fresh .entry)) (now (parent .entry)) (now (depth .entry))
+        (now (fresh .exit)) (now (parent .exit)) (now (depth .exit)) ⌝ }
+{
+    let mut k: usize = 0;
+    while k < WORDS {
+        let old = fresh[k];
+        let found = row[k] & old;
+        if found != 0 {
+            fresh[k] = old ^ found;
+            enter(parent, depth, found, k * 64, u, d);
+        }
+        k += 1;
+    }
+}
+
+// The rows of the locations that are marked in a word, in rising order.
+fn sweep_word(
+    links: &[[u64; WORDS]; LOCATIONS],
+    word: u64,
+    base: usize,
+    fresh: &mut [u64; WORDS],
+    parent: &mut [u8; LOCATIONS],
+    depth: &mut [u8; LOCATIONS],
+    d: u8,
+)
+    requires { ⌜ Locations (inWord word base) ⌝ }
+    requires { ⌜ Ready (now fresh) (now parent) (now depth) ⌝ }
+    ensures { λ _.
+        ⌜ Swept (inWord word base) (linkedIn (now (links .entry))) d
+        (now (fresh .entry)) (now (parent .entry)) (now (depth .entry))
+        (now (fresh .exit)) (now (parent .exit)) (now (depth .exit)) ⌝ }
+{
+    let mut w = word;
+    while w != 0 {
+        let u = base + (u64::trailing_zeros(w) as usize);
+        let row = links[u];
+        sweep(row, fresh, parent, depth, u as u8, d);
+        w = w & (w - 1);
+    }
+}
+
+// One level: the rows of the frontier, in rising order.
+fn level(
+    links: &[[u64; WORDS]; LOCATIONS],
+    frontier: [u64; WORDS],
+    fresh: &mut [u64; WORDS],
+    parent: &mut [u8; LOCATIONS],
+    depth: &mut [u8; LOCATIONS],
+    d: u8,
+)
+    requires { ⌜ Locations (marked frontier) ⌝ }
+    requires { ⌜ Ready (now fresh) (now parent) (now depth) ⌝ }
+    ensures { λ _.
+        ⌜ Swept (marked frontier) (linkedIn (now (links .entry))) d
+        (now (fresh .entry)) (now (parent .entry)) (now (depth .entry))
+        (now (fresh .exit)) (now (parent .exit)) (now (depth .exit)) ⌝ }
+{
+    let mut i: usize = 0;
+    while i < WORDS {
+        let word = frontier[i];
+        sweep_word(links, word, i * 64, fresh, parent, depth, d);
+        i += 1;
+    }
+}
+
+// The forest of the chains over the links through the held slots.
+pub fn walk(links: [[u64; WORDS]; LOCATIONS], held: [u64; WORDS]) -> Forest
+    requires { ⌜ SlotsOnly held ⌝ }
+    ensures { λ r. ⌜ Walked (linkedIn links) (heldIn held) (marked (r .reached)) (r .parent) (r .depth) ⌝ }
+{
+    let mut parent = [0u8; LOCATIONS];
+    let mut depth = [0u8; LOCATIONS];
+    let mut fresh = held;
+    let mut frontier = [0u64; WORDS];
+    frontier[0] = 1;
+    let mut d: u8 = 0;
+    while d < 240 {
+        if rows::none_marked(frontier) {
+            break;
+        }
+        let before = fresh;
+        d += 1;
+        level(&links, frontier, &mut fresh, &mut parent, &mut depth, d);
+        frontier = rows::differ(before, fresh);
+    }
+    let mut reached = rows::differ(held, fresh);
+    reached[0] = reached[0] | 1;
+    Forest {
+        parent,
+        depth,
+        reached,
+    }
+}

@@ -1,0 +1,6 @@
+-- Laws of marks in words and rows.
+pub mod Digits
+pub mod Lowest
+pub mod Parts
+pub mod Words
+pub mod Marks

@@ -1,0 +1,274 @@
+-- Marks in a row of words, and the loop that takes them word by word. Assumes nothing.
+use mathlib.Core.Bool.{Bool, true, false, not, xor, _&&_, _||_, or-false}
+use mathlib.Core.List.{List, []}
+use mathlib.Core.Logic.{inl, inr, by-cases}
+use mathlib.Core.Path.{_≡_, refl, sym, ap, ap₂, _∙_}
+use Prim.Native.Nat.{ℕ, zero, suc, _+_, _-_, _*_, _/_, _%_, _^_, _≤_, _<_}
+use native.Mathlib.Omega.{arith}
+use native.Mathlib.Decide.{decLt, ℕ-discrete}
+use native.Mathlib.Nat.{lt-of-le-of-lt}
+use lib.Bits.{bitAnd, bitOr, bitXor, or-add-and, and-le-l, and-le-r}
+use borrow.Author.Count.{below-more}
+use lib.Count.{trailingZeros}
+use borrow.Author.Tests.{eq-eqb, ne-eqb}
+use lib.Dec.{T, T-not, leb, eqb, leb→le, le→leb, eqb→eq}
+use lib.ListN.{length, getD, set, length-set, List·getD-eq-default}
+use lib.Seq.{getD-set-same, getD-set-other}
+use Rattle.rows.specs.Rows.{bit, marked, linkedIn, With, Linked, Meet}
+use Rattle.rows.specs.Rows.{inWord}
+use Rattle.lists.proofs.Tests.{and-T, T-and, eq-T}
+use Rattle.rows.proofs.Digits.{bit-none, digit-and, digit-or, digit-xor, digit-shifted}
+use Rattle.rows.proofs.Words.{in-word, word-in, both-words, common-words, none-in-zero, word-begun, word-here}
+use Rattle.rows.proofs.Parts.{done-split, Part, Picked}
+
+-- past its words a row has zeros
+getD-past : (row : List ℕ) (j : ℕ) → length row ≤ j → getD row j 0 ≡ 0
+getD-past row j l = List·getD-eq-default row 0 {n = j} l
+
+-- a mark is a digit that is set
+pub mark-digit : (row : List ℕ) (v : ℕ) → T (marked row v) → bit (getD row (v / 64) 0) (v % 64) ≡ 1
+unfolding marked
+mark-digit row v t = eqb→eq (bit (getD row (v / 64) 0) (v % 64)) 1 t
+
+pub digit-mark : (row : List ℕ) (v : ℕ) → bit (getD row (v / 64) 0) (v % 64) ≡ 1 → T (marked row v)
+unfolding marked
+digit-mark row v e = eq-T (bit (getD row (v / 64) 0) (v % 64)) 1 e
+
+-- the mark of a location that falls in word i
+pub mark-is : (row : List ℕ) (i v : ℕ) → v / 64 ≡ i → marked row v ≡ eqb (bit (getD row i 0) (v % 64)) 1
+unfolding marked
+mark-is row i v e = rw e
+
+-- a location is marked in the word of a row that it falls in
+pub word-marked : (row : List ℕ) (i v : ℕ) → T (inWord (getD row i 0) (i * 64) v) → (v / 64 ≡ i) × T (marked row v)
+word-marked row i v t =
+    let s = in-word (getD row i 0) (i * 64) v t in
+    let e : v / 64 ≡ i = omega (arith, s .from, s .to) in
+    let m : v - i * 64 ≡ v % 64 = omega (arith, s .from, s .to) in
+    (e, digit-mark row v (rw (e, ← m) (s .digit)))
+
+pub marked-word : (row : List ℕ) (i v : ℕ) → v / 64 ≡ i → T (marked row v) → T (inWord (getD row i 0) (i * 64) v)
+marked-word row i v e t =
+    let m : v - i * 64 ≡ v % 64 = omega arith in
+    word-in (getD row i 0) (i * 64) v (record { from = omega arith; to = omega arith; digit = rw (m, ← e) (mark-digit row v t) })
+
+-- the marks from word i on
+unfoldable pub fromWord : ℕ → (ℕ → Bool) → ℕ → Bool
+fromWord i marks v = leb i (v / 64) && marks v
+
+module _ (i : ℕ) (marks : ℕ → Bool) (v : ℕ) where
+  pub from-word : T (fromWord i marks v) → (i ≤ v / 64) × T (marks v)
+  unfolding fromWord
+  from-word t = let s = and-T (leb i (v / 64)) (marks v) t in (leb→le i (v / 64) (s .0), s .1)
+
+  pub word-from : i ≤ v / 64 → T (marks v) → T (fromWord i marks v)
+  unfolding fromWord
+  word-from l t = T-and (leb i (v / 64)) (marks v) (le→leb i (v / 64) l) t
+
+-- from the first word on all marks are left
+pub from-first : (marks : ℕ → Bool) (v : ℕ) → T (marks v) → T (fromWord 0 marks v)
+from-first marks v t = word-from 0 marks v (omega arith) t
+
+-- no row has marks past its words
+pub from-past : (row : List ℕ) (i : ℕ) → length row ≤ i → (v : ℕ) → ¬ T (fromWord i (marked row) v)
+from-past row i l v t =
+    let s = from-word i (marked row) v t in
+    omega (arith, mark-digit row v (s .1), bit-none (v % 64), ap (λ w. bit w (v % 64)) (getD-past row (v / 64) (omega (arith, s .0))))
+
+-- the marks of later words are above those of the words before
+pub from-part : (i : ℕ) (marks : ℕ → Bool) → Part marks (fromWord i marks)
+from-part i marks =
+    record {
+      part = λ v t. from-word i marks v t .1;
+      rising =
+          λ a b t r.
+          let s = done-split marks (fromWord i marks) a t in
+          let l : a / 64 < i = by-cases (decLt (a / 64) i) (λ l. l) (λ nl. absurd (s .1 (word-from i marks a (omega arith) (s .0)))) in
+          omega (arith, from-word i marks b r .0);
+    }
+
+-- a word of a row is taken from its marks
+pub row-picked : (row : List ℕ) (i : ℕ) → Picked (fromWord i (marked row)) (inWord (getD row i 0) (i * 64)) (fromWord (i + 1) (marked row))
+row-picked row i =
+    record {
+      splits =
+          λ v t.
+          let s = from-word i (marked row) v t in
+          by-cases
+          (ℕ-discrete (v / 64) i)
+          (λ e. inl (marked-word row i v e (s .1)))
+          (λ ne. inr (word-from (i + 1) (marked row) v (omega (arith, s .0)) (s .1)));
+      of-new = λ v t. let s = word-marked row i v t in word-from i (marked row) v (omega (arith, s .0)) (s .1);
+      of-rest = λ v t. let s = from-word (i + 1) (marked row) v t in word-from i (marked row) v (omega (arith, s .0)) (s .1);
+      rising = λ a b t r. omega (arith, word-marked row i a t .0, from-word (i + 1) (marked row) b r .0);
+    }
+
+-- ---- rows that are stored to, compared and made
+
+-- the marks of a row after a store
+module _ (row : List ℕ) (i w : ℕ) where
+  pub mark-here : i < length row → (v : ℕ) → v / 64 ≡ i → marked (set row i w) v ≡ eqb (bit w (v % 64)) 1
+  mark-here l v e = mark-is (set row i w) i v e ∙ rw (getD-set-same row i w 0 l)
+
+  pub mark-other : (v : ℕ) → (v / 64 ≡ i → ⊥) → marked (set row i w) v ≡ marked row v
+  unfolding marked
+  mark-other v ne = rw (getD-set-other row i (v / 64) w 0 ne)
+
+-- ---- rows that are made word by word, by an operator that works digit by digit
+
+-- of a row, i words are made of those of two others
+pub record Made (op : ℕ → ℕ → ℕ) (n : ℕ) (one other row : List ℕ) (i : ℕ) : Type 0 where
+  pub within : i ≤ n
+  pub ones : length one ≡ n
+  pub others : length other ≡ n
+  pub rows : length row ≡ n
+  pub words : (j : ℕ) → j < i → getD row j 0 ≡ op (getD one j 0) (getD other j 0)
+
+pub made-next : (op : ℕ → ℕ → ℕ) (n : ℕ) (one other row : List ℕ) (i : ℕ) → Made op n one other row i → i < n
+    → Made op n one other (set row i (op (getD one i 0) (getD other i 0))) (i + 1)
+made-next op n one other row i m l =
+    record {
+      within = omega arith;
+      ones = m .ones;
+      others = m .others;
+      rows = simp length-set (m .rows);
+      words = below-more _ _ (λ j h. getD-set-other row i j _ 0 (omega arith) ∙ m .words j h) (getD-set-same row i _ 0 (omega (arith, m .rows)));
+    }
+
+-- when all are made, a mark of the row is the test of the two marks
+pub made-marks : (op : ℕ → ℕ → ℕ) (test : Bool → Bool → Bool) → ((a b k : ℕ) → eqb (bit (op a b) k) 1 ≡ test (eqb (bit a k) 1) (eqb (bit b k) 1)) → op 0 0 ≡ 0
+    → (n : ℕ) (one other row : List ℕ) → Made op n one other row n → (v : ℕ) → marked row v ≡ test (marked one v) (marked other v)
+unfolding marked
+made-marks op test digit zeros n one other row m v =
+    ap (λ w. eqb (bit w (v % 64)) 1) (all (v / 64)) ∙ digit (getD one (v / 64) 0) (getD other (v / 64) 0) (v % 64)
+  where
+    all : (j : ℕ) → getD row j 0 ≡ op (getD one j 0) (getD other j 0)
+    all j =
+        by-cases
+        (decLt j n)
+        (m .words j)
+        (λ nl. rw (getD-past row j (omega (arith, m .rows)), getD-past one j (omega (arith, m .ones)), getD-past other j (omega (arith, m .others))) (sym zeros))
+
+-- what the first word has and the second has not
+abbrev pub lessWord : ℕ → ℕ → ℕ
+lessWord a b = bitXor a (bitAnd a b)
+
+pub digit-less : (a b k : ℕ) → eqb (bit (lessWord a b) k) 1 ≡ (eqb (bit a k) 1 && not (eqb (bit b k) 1))
+unfolding xor
+digit-less a b k = digit-xor a (bitAnd a b) k ∙ ap (xor (eqb (bit a k) 1)) (digit-and a b k) ∙ less (eqb (bit a k) 1) (eqb (bit b k) 1)
+  where
+    less : (x y : Bool) → xor x (x && y) ≡ (x && not y)
+    less true true = refl
+    less true false = refl
+    less false y = refl
+
+-- a row whose words are 0 marks nothing
+pub none-marked : (row : List ℕ) (n : ℕ) → length row ≤ n → ((j : ℕ) → j < n → getD row j 0 ≡ 0) → (v : ℕ) → ¬ T (marked row v)
+none-marked row n l zeros v t =
+    let z : getD row (v / 64) 0 ≡ 0 = by-cases (decLt (v / 64) n) (zeros (v / 64)) (λ nl. getD-past row (v / 64) (omega arith)) in
+    omega (arith, bit-none (v % 64), rw z at (mark-digit row v t))
+
+-- a word that is not 0 marks a location
+pub some-marked : (row : List ℕ) (i : ℕ) → getD row i 0 < 2 ^ 64 → (getD row i 0 ≡ 0 → ⊥) → (v : ℕ) × T (marked row v)
+some-marked row i small some =
+    let w = getD row i 0 in
+    (i * 64 + trailingZeros 64 w, word-marked row i _ (word-here (word-begun w (i * 64) small) some) .1)
+
+-- of 1 the lowest digit is set alone
+-- a row with v marked too, as the machine stores it
+pub with-mark : (row : List ℕ) (v : ℕ) → v / 64 < length row → (u : ℕ) → marked (set row (v / 64) (bitOr (getD row (v / 64) 0) (1 * 2 ^ (v % 64) % 2 ^ 64))) u ≡ (marked row u || eqb u v)
+with-mark row v l u =
+    by-cases
+    (ℕ-discrete (u / 64) (v / 64))
+    (λ e.
+    mark-here row (v / 64) word l u e
+    ∙ digit-or (getD row (v / 64) 0) (1 * 2 ^ (v % 64) % 2 ^ 64) (u % 64)
+    ∙ ap₂ _||_ (sym (mark-is row (v / 64) u e)) (digit-shifted (v % 64) (u % 64) (omega arith) ∙ places e))
+    (λ ne. mark-other row (v / 64) word u ne ∙ sym (ap (λ b. marked row u || b) (ne-eqb u v (λ e. ne (ap (λ x. x / 64) e))) ∙ or-false (marked row u)))
+  where
+    word : ℕ
+    word = bitOr (getD row (v / 64) 0) (1 * 2 ^ (v % 64) % 2 ^ 64)
+
+    places : u / 64 ≡ v / 64 → eqb (u % 64) (v % 64) ≡ eqb u v
+    places e =
+        by-cases
+        (ℕ-discrete u v)
+        (λ q. eq-eqb _ _ (ap (λ x. x % 64) q) ∙ sym (eq-eqb _ _ q))
+        (λ n. ne-eqb (u % 64) (v % 64) (λ m. n (omega arith)) ∙ sym (ne-eqb u v n))
+
+-- a row of links with one more mark
+pub with-link : (rows : List (List ℕ)) (a b : ℕ) (row : List ℕ) → a < length rows → With (getD rows a []) b row → Linked rows a b (set rows a row)
+unfolding linkedIn
+with-link rows a b row l w = record { many = length-set rows a row; links = links }
+  where
+    links : (x y : ℕ) → marked (getD (set rows a row) x []) y ≡ (marked (getD rows x []) y || (eqb x a && eqb y b))
+    links x y =
+        by-cases
+        (ℕ-discrete x a)
+        (λ e. rw (e, getD-set-same rows a row [] l, eq-eqb a a refl) (w .marks y))
+        (λ ne. rw (getD-set-other rows a x row [] ne, ne-eqb x a ne) (sym (or-false (marked (getD rows x []) y))))
+
+-- a row with the origin marked too
+pub with-origin : (row : List ℕ) → 0 < length row → (v : ℕ) → marked (set row 0 (bitOr (getD row 0 0) 1)) v ≡ (marked row v || eqb v 0)
+with-origin row l v = with-mark row 0 l v
+
+-- ---- marks in common
+
+-- a bitwise or is 0 exactly where both its words are
+pub or-none : (a b : ℕ) → bitOr a b ≡ 0 → (a ≡ 0) × (b ≡ 0)
+or-none a b e = (omega (arith, or-add-and a b, and-le-l a b, and-le-r a b), omega (arith, or-add-and a b, and-le-l a b, and-le-r a b))
+
+-- of the words of two rows, i are looked at, and `seen` is 0 where they have nothing in common
+pub record Looked (one other : List ℕ) (seen i : ℕ) : Type 0 where
+  pub within : i ≤ 4
+  pub ones : length one ≡ 4
+  pub others : length other ≡ 4
+  pub none : seen ≡ 0 → (j : ℕ) → j < i → bitAnd (getD one j 0) (getD other j 0) ≡ 0
+  pub some : (seen ≡ 0 → ⊥) → (j : ℕ) × (j < i) × (getD one j 0 < 2 ^ 64) × (bitAnd (getD one j 0) (getD other j 0) ≡ 0 → ⊥)
+
+module _ (one other : List ℕ) (seen i : ℕ) where
+  pub looked-next : Looked one other seen i → i < 4 → getD one i 0 < 2 ^ 64 → Looked one other (bitOr seen (bitAnd (getD one i 0) (getD other i 0))) (i + 1)
+  looked-next l h small =
+      let w : ℕ = bitAnd (getD one i 0) (getD other i 0) in
+      record {
+        within = omega arith;
+        ones = l .ones;
+        others = l .others;
+        none = λ z. below-more _ _ (l .none (or-none seen w z .0)) (or-none seen w z .1);
+        some =
+            λ n.
+            by-cases
+            (ℕ-discrete w 0)
+            (λ e. let r = l .some (λ z. n (rw (z, e))) in (r .0, omega (arith, r .1), r .2, r .3))
+            (λ ne. (i, omega arith, small, ne));
+      }
+
+  pub looked-all : Looked one other seen i → 4 ≤ i → Meet one other (not (eqb seen 0))
+  looked-all l h =
+      record {
+        common = λ t. common (l .some (λ z. T-not (eqb seen 0) t (eq-T seen 0 z)));
+        apart = λ t v a b. apart (l .none (not-not t)) v a b;
+      }
+    where
+      not-not : T (not (not (eqb seen 0))) → seen ≡ 0
+      not-not t = by-cases (ℕ-discrete seen 0) (λ e. e) (λ ne. absurd (T-not (not (eqb seen 0)) t (rw (ne-eqb seen 0 ne) tt)))
+
+      both : (j v : ℕ) → T (inWord (bitAnd (getD one j 0) (getD other j 0)) (j * 64) v) → T (marked one v) × T (marked other v)
+      both j v t =
+          let s = common-words (getD one j 0) (getD other j 0) (j * 64) v t in
+          (word-marked one j v (s .0) .1, word-marked other j v (s .1) .1)
+
+      common : (j : ℕ) × (j < i) × (getD one j 0 < 2 ^ 64) × (bitAnd (getD one j 0) (getD other j 0) ≡ 0 → ⊥) → (v : ℕ) × T (marked one v) × T (marked other v)
+      common r =
+          let w : ℕ = bitAnd (getD one (r .0) 0) (getD other (r .0) 0) in
+          let v : ℕ = r .0 * 64 + trailingZeros 64 w in
+          let s = both (r .0) v (word-here (word-begun w (r .0 * 64) (lt-of-le-of-lt (and-le-l (getD one (r .0) 0) (getD other (r .0) 0)) (r .2))) (r .3)) in
+          (v, s .0, s .1)
+
+      apart : ((j : ℕ) → j < i → bitAnd (getD one j 0) (getD other j 0) ≡ 0) → (v : ℕ) → T (marked one v) → ¬ T (marked other v)
+      apart none v a b =
+          let j : ℕ = v / 64 in
+          by-cases
+          (decLt j 4)
+          (λ s. none-in-zero (bitAnd (getD one j 0) (getD other j 0)) (j * 64) (none j (omega arith)) v (both-words (getD one j 0) (getD other j 0) (j * 64) v (marked-word one j v refl a) (marked-word other j v refl b)))
+          (λ s. from-past one 4 (omega (arith, l .ones)) v (word-from 4 (marked one) v (omega arith) a))

@@ -1,0 +1,71 @@
+-- `differ` compares two rows word by word. Assumes nothing.
+use mathlib.Core.Path.{_≡_, refl, sym, ap, _∙_}
+use mathlib.Core.Bool.{Bool, not, xor, _&&_}
+use Prim.Native.Nat.{ℕ, _-_}
+use native.Mathlib.Omega.{arith}
+use lib.Bits.{bitXor}
+use Rattle.rows.proofs.Marks.{Made, made-next, made-marks}
+use Rattle.rows.proofs.Digits.{digit-xor}
+use borrow.Author.Needs.{needs}
+use Rattle.rows.proofs.differ.Statement.{statement}
+use Rattle.rows.proofs.differ.Tie as tie
+
+abbrev Inv-loop : tie.InvT-loop
+Inv-loop before after row₀ i₀ row i = Made bitXor 4 before after row i
+
+abbrev μ-loop : tie.MeasureT-loop
+μ-loop before after row₀ i₀ row i = 4 - i
+
+loop-holds : tie.Need-loop-holds Inv-loop μ-loop
+loop-holds c = record { within = search needs; ones = search needs; others = search needs; rows = search needs; words = search needs }
+
+mul-row : tie.Need-mul-row Inv-loop μ-loop
+mul-row c = search needs
+
+array-read-row : tie.Need-array-read-row Inv-loop μ-loop
+array-read-row c = search needs
+
+mul-row-2 : tie.Need-mul-row-2 Inv-loop μ-loop
+mul-row-2 c = search needs
+
+array-read-row-2 : tie.Need-array-read-row-2 Inv-loop μ-loop
+array-read-row-2 c = search needs
+
+mul-row-3 : tie.Need-mul-row-3 Inv-loop μ-loop
+mul-row-3 c = search needs
+
+array-write-row : tie.Need-array-write-row Inv-loop μ-loop
+array-write-row c = search needs
+
+add-i : tie.Need-add-i Inv-loop μ-loop
+add-i c = search needs
+
+loop-less : tie.Need-loop-less Inv-loop μ-loop
+loop-less c = search needs
+
+loop-again : tie.Need-loop-again Inv-loop μ-loop
+loop-again c = made-next bitXor 4 _ _ _ (c .before .loop .i) (c .before .loop .inv) (omega arith)
+
+returns : tie.Need-returns Inv-loop μ-loop
+returns c = 
+    let l = c .before .loop in
+    let e : l .i ≡ 4 = omega arith in
+    record { marks = made-marks bitXor xor digit-xor refl 4 _ _ _ (rw e at (l .inv)) }
+
+pub differ-spec : {M : Type 1} → statement M
+differ-spec =
+    tie.close
+    (tie.spec
+    Inv-loop
+    μ-loop
+    loop-holds
+    mul-row
+    array-read-row
+    mul-row-2
+    array-read-row-2
+    mul-row-3
+    array-write-row
+    add-i
+    loop-less
+    loop-again
+    returns)

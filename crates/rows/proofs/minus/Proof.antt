@@ -1,0 +1,79 @@
+-- `minus` takes one row's marks from another's, word by word. Assumes nothing.
+use mathlib.Core.Path.{_≡_, refl, sym, ap, _∙_}
+use mathlib.Core.Bool.{Bool, not, xor, _&&_}
+use Prim.Native.Nat.{ℕ, _-_}
+use native.Mathlib.Omega.{arith}
+use Rattle.rows.proofs.Marks.{lessWord, digit-less, Made, made-next, made-marks}
+use borrow.Author.Needs.{needs}
+use Rattle.rows.proofs.minus.Statement.{statement}
+use Rattle.rows.proofs.minus.Tie as tie
+
+abbrev Inv-loop : tie.InvT-loop
+Inv-loop row less left₀ i₀ left i = Made lessWord 4 row less left i
+
+abbrev μ-loop : tie.MeasureT-loop
+μ-loop row less left₀ i₀ left i = 4 - i
+
+loop-holds : tie.Need-loop-holds Inv-loop μ-loop
+loop-holds c = record { within = search needs; ones = search needs; others = search needs; rows = search needs; words = search needs }
+
+mul-left : tie.Need-mul-left Inv-loop μ-loop
+mul-left c = search needs
+
+array-read-left : tie.Need-array-read-left Inv-loop μ-loop
+array-read-left c = search needs
+
+mul-left-2 : tie.Need-mul-left-2 Inv-loop μ-loop
+mul-left-2 c = search needs
+
+array-read-left-2 : tie.Need-array-read-left-2 Inv-loop μ-loop
+array-read-left-2 c = search needs
+
+mul-left-3 : tie.Need-mul-left-3 Inv-loop μ-loop
+mul-left-3 c = search needs
+
+array-read-left-3 : tie.Need-array-read-left-3 Inv-loop μ-loop
+array-read-left-3 c = search needs
+
+mul-left-4 : tie.Need-mul-left-4 Inv-loop μ-loop
+mul-left-4 c = search needs
+
+array-write-left : tie.Need-array-write-left Inv-loop μ-loop
+array-write-left c = search needs
+
+add-i : tie.Need-add-i Inv-loop μ-loop
+add-i c = search needs
+
+loop-less : tie.Need-loop-less Inv-loop μ-loop
+loop-less c = search needs
+
+loop-again : tie.Need-loop-again Inv-loop μ-loop
+unfolding lessWord
+loop-again c = made-next lessWord 4 _ _ _ (c .before .loop .i) (c .before .loop .inv) (omega arith)
+
+returns : tie.Need-returns Inv-loop μ-loop
+unfolding lessWord
+returns c = 
+    let l = c .before .loop in
+    let e : l .i ≡ 4 = omega arith in
+    record { marks = made-marks lessWord (λ x y. x && not y) digit-less refl 4 _ _ _ (rw e at (l .inv)) }
+
+pub minus-spec : {M : Type 1} → statement M
+minus-spec =
+    tie.close
+    (tie.spec
+    Inv-loop
+    μ-loop
+    loop-holds
+    mul-left
+    array-read-left
+    mul-left-2
+    array-read-left-2
+    mul-left-3
+    array-read-left-3
+    mul-left-4
+    array-write-left
+    add-i
+    loop-less
+    loop-again
+    returns)

@@ -1,0 +1,71 @@
+-- `none_marked` tells whether a row marks anything. The invariant: the words passed are 0. Assumes nothing.
+use mathlib.Core.List.{List}
+use mathlib.Core.Path.{_≡_}
+use Prim.Native.Nat.{ℕ, _-_, _≤_, _<_}
+use native.Mathlib.Omega.{arith}
+use borrow.Author.Count.{below-more}
+use borrow.Author.Needs.{needs}
+use lib.ListN.{length, getD}
+use mir.Syntax.{w64}
+use mir.Val.{Fits}
+use Rattle.rows.proofs.Marks.{none-marked, some-marked}
+use Rattle.rows.proofs.none_marked.Statement.{statement}
+use Rattle.rows.proofs.none_marked.Tie as tie
+
+record Passing (row : List ℕ) (i : ℕ) : Type 0 where
+  pub low : i ≤ 4
+  pub rows : length row ≡ 4
+  pub zeros : (j : ℕ) → j < i → getD row j 0 ≡ 0
+
+abbrev Inv-loop : tie.InvT-loop
+Inv-loop row i₀ i = Passing row i
+
+abbrev μ-loop : tie.MeasureT-loop
+μ-loop row i₀ i = 4 - i
+
+loop-holds : tie.Need-loop-holds Inv-loop μ-loop
+loop-holds c = record { low = search needs; rows = search needs; zeros = search needs }
+
+mul-if1 : tie.Need-mul-if1 Inv-loop μ-loop
+mul-if1 c = search needs
+
+array-read-if1 : tie.Need-array-read-if1 Inv-loop μ-loop
+array-read-if1 c = search needs
+
+returns : tie.Need-returns Inv-loop μ-loop
+returns c =
+    let l = c .before .before .loop in
+    let fits : Fits w64 (getD (c .before .before .before .args .t1) (l .i) 0) = search needs in
+    record { empty = λ t. absurd t; some = λ _. some-marked _ (l .i) (fits .fits) (c .if1 .taken) }
+
+add-i : tie.Need-add-i Inv-loop μ-loop
+add-i c = search needs
+
+loop-less : tie.Need-loop-less Inv-loop μ-loop
+loop-less c = search needs
+
+loop-again : tie.Need-loop-again Inv-loop μ-loop
+loop-again c =
+    let l = c .before .before .loop in
+    record { low = search needs; rows = l .inv .rows; zeros = below-more _ _ (l .inv .zeros) (search needs) }
+
+returns-2 : tie.Need-returns-2 Inv-loop μ-loop
+returns-2 c =
+    let l = c .before .loop in
+    let e : l .i ≡ 4 = omega arith in
+    record { empty = λ _. none-marked _ 4 (omega (arith, l .inv .rows)) (rw e at (l .inv .zeros)); some = λ t. absurd t }
+
+pub none-marked-spec : {M : Type 1} → statement M
+none-marked-spec =
+    tie.close
+    (tie.spec
+    Inv-loop
+    μ-loop
+    loop-holds
+    mul-if1
+    array-read-if1
+    returns
+    add-i
+    loop-less
+    loop-again
+    returns-2)
