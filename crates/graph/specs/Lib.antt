@@ -1,5 +1,6 @@
 -- The definitions that the contracts of `graph` cite.
 pub mod Chains
+pub mod Rounds
 pub mod Held
 pub mod Sweeps
 pub mod Steps

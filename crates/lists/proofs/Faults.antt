@@ -35,6 +35,17 @@ unfolding on
 on-none true k t = absurd t
 on-none false k t = refl
 
+pub on-pass : (b : Bool) (k : ℕ) → T b → on b k ≡ k
+unfolding on
+on-pass true k t = refl
+on-pass false k t = absurd t
+
+-- a bound that holds where the test does
+pub on-le : (b : Bool) (k m : ℕ) → (T b → k ≤ m) → on b k ≤ m
+unfolding on
+on-le true k m h = h tt
+on-le false k m h = zero-le
+
 -- ---- the first number of a list
 
 pub first-zero : (l : List ℕ) → first l ≡ 0 → (i : ℕ) → getD l i 0 ≡ 0

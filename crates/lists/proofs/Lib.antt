@@ -1,4 +1,10 @@
 -- Laws of the definitions over lists.
 pub mod Tests
 pub mod Ranges
+pub mod Searches
+pub mod Filters
+pub mod Marks
 pub mod Faults
+pub mod Sums
+pub mod Prefixes
+pub mod Picks

@@ -1,10 +1,16 @@
 -- Laws of ranges. Assumes nothing.
-use mathlib.Core.Path.{_≡_, refl, sym, ap, _∙_}
+use mathlib.Core.Path.{_≡_, refl, sym, ap, _∙_, subst}
+use mathlib.Core.Bool.{Bool}
+use mathlib.Core.Logic.{_⊎_, inl, inr}
 use mathlib.Core.List.{map}
-use Prim.Native.Nat.{ℕ, zero, suc, _+_, _<_}
+use Prim.Native.Nat.{ℕ, zero, suc, _+_, _<_, _≤_}
+use native.Mathlib.Omega.{arith}
+use native.Mathlib.Decide.{ℕ-discrete}
 use native.Mathlib.Nat.{add-zero, add-suc, suc-add, le-of-suc-le-suc, not-suc-le-zero}
+use lib.Dec.{T}
 use lib.ListN.{length, getD}
-use Rattle.lists.specs.Lists.{range}
+use Rattle.lists.specs.Lists.{range, any}
+use Rattle.lists.proofs.Tests.{or-T, T-or-l, T-or-r}
 
 pub length-range : (i k : ℕ) → length (range i k) ≡ k
 unfolding range
@@ -16,3 +22,29 @@ unfolding range
 getD-map-range f d i zero j h = absurd (not-suc-le-zero h)
 getD-map-range f d i (suc k) zero h = ap f (sym (add-zero i))
 getD-map-range f d i (suc k) (suc j) h = getD-map-range f d (suc i) k j (le-of-suc-le-suc h) ∙ ap f (suc-add i j ∙ sym (add-suc i j))
+
+-- a number of the range that passes the test
+pub record InRange (f : ℕ → Bool) (i k : ℕ) : Type 0 where
+  pub number : ℕ
+  pub from : i ≤ number
+  pub below : number < i + k
+  pub passes : T (f number)
+
+-- a test of any number of a range holds at one of them, and the other way
+pub any-range : (f : ℕ → Bool) (i k : ℕ) → T (any f (range i k)) → InRange f i k
+unfolding any range
+any-range f i zero t = absurd t
+any-range f i (suc k) t = go (or-T (f i) (any f (range (suc i) k)) t) (λ s. any-range f (suc i) k s)
+  where
+    go : T (f i) ⊎ T (any f (range (suc i) k)) → (T (any f (range (suc i) k)) → InRange f (suc i) k) → InRange f i (suc k)
+    go (inl s) ih = record { number = i; from = omega arith; below = omega arith; passes = s }
+    go (inr s) ih = let r = ih s in record { number = r .number; from = omega arith; below = omega arith; passes = r .passes }
+
+pub range-any : (f : ℕ → Bool) (i k : ℕ) → InRange f i k → T (any f (range i k))
+unfolding any range
+range-any f i zero r = absurd (omega arith)
+range-any f i (suc k) r = go (ℕ-discrete (r .number) i) (λ s. range-any f (suc i) k s)
+  where
+    go : Dec (r .number ≡ i) → (InRange f (suc i) k → T (any f (range (suc i) k))) → T (any f (range i (suc k)))
+    go (yes e) ih = T-or-l (f i) (any f (range (suc i) k)) (subst (λ (x : ℕ). T (f x)) e (r .passes))
+    go (no e) ih = T-or-r (f i) (any f (range (suc i) k)) (ih (record { number = r .number; from = omega arith; below = omega arith; passes = r .passes }))

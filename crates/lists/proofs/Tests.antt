@@ -3,11 +3,11 @@ use mathlib.Core.Path.{_≡_, refl, ap₂, subst}
 use mathlib.Core.Bool.{Bool, true, false, not, xor, _&&_, _||_}
 use mathlib.Core.Logic.{_⊎_, inl, inr}
 use mathlib.Core.List.{List, [], _∷_}
-use Prim.Native.Nat.{ℕ, zero, suc, _<_}
+use Prim.Native.Nat.{ℕ, zero, suc, _<_, zero-le, suc-le-suc}
 use native.Mathlib.Nat.{le-of-suc-le-suc, not-suc-le-zero}
 use lib.Dec.{T, eqb, eqb→eq, eqb-refl}
 use lib.ListN.{length, getD}
-use Rattle.lists.specs.Lists.{all, equal}
+use Rattle.lists.specs.Lists.{all, any, equal}
 
 pub and-T : (a b : Bool) → T (a && b) → T a × T b
 and-T true b t = (tt, t)
@@ -66,6 +66,27 @@ unfolding all
 all-at f [] t i h d = absurd (not-suc-le-zero h)
 all-at f (x ∷ l) t zero h d = and-T (f x) (all f l) t .0
 all-at f (x ∷ l) t (suc i) h d = all-at f l (and-T (f x) (all f l) t .1) i (le-of-suc-le-suc h) d
+
+-- a test of any element holds at some place
+pub record Somewhere {A : Type 0} (d : A) (f : A → Bool) (l : List A) : Type 0 where
+  pub at : ℕ
+  pub within : at < length l
+  pub passes : T (f (getD l at d))
+
+pub any-at : {A : Type 0} (d : A) (f : A → Bool) (l : List A) → T (any f l) → Somewhere d f l
+unfolding any
+any-at d f [] t = absurd t
+any-at {A} d f (x ∷ l) t = go (or-T (f x) (any f l) t) (λ s. any-at d f l s)
+  where
+    go : T (f x) ⊎ T (any f l) → (T (any f l) → Somewhere d f l) → Somewhere d f (x ∷ l)
+    go (inl s) ih = record { at = 0; within = suc-le-suc zero-le; passes = s }
+    go (inr s) ih = let r = ih s in record { at = suc (r .at); within = suc-le-suc (r .within); passes = r .passes }
+
+pub at-any : {A : Type 0} (d : A) (f : A → Bool) (l : List A) (i : ℕ) → i < length l → T (f (getD l i d)) → T (any f l)
+unfolding any
+at-any d f [] i h t = absurd (not-suc-le-zero h)
+at-any d f (x ∷ l) zero h t = T-or-l (f x) (any f l) t
+at-any d f (x ∷ l) (suc i) h t = T-or-r (f x) (any f l) (at-any d f l i (le-of-suc-le-suc h) t)
 
 -- lists that are tested equal are the same
 pub equal-same : (xs ys : List ℕ) → T (equal xs ys) → xs ≡ ys

@@ -1,3 +1,4 @@
--- Lists and rules, as the specifications of the layers above use them.
+-- Lists, rules and sums, as the specifications of the layers above use them.
 pub mod Lists
 pub mod Rules
+pub mod Totals

@@ -1,6 +1,6 @@
--- Ranges, tests over lists, sums, and the first fault of a list of tests. Assumes nothing.
-use mathlib.Core.Bool.{Bool, true, false, _&&_}
-use mathlib.Core.List.{List, [], _∷_}
+-- Ranges, tests and searches over lists, sums, and the first fault of a list of tests. Assumes nothing.
+use mathlib.Core.Bool.{Bool, true, false, _&&_, _||_, cond}
+use mathlib.Core.List.{List, [], _∷_, _++_}
 use Prim.Native.Nat.{ℕ, zero, suc, _+_}
 use lib.Dec.{eqb}
 use lib.ListN.{getD}
@@ -25,6 +25,11 @@ unfoldable pub sum : List ℕ → ℕ
 sum [] = 0
 sum (x ∷ xs) = x + sum xs
 
+-- the first number that passes the test, or 0
+unfoldable pub lowest : (ℕ → Bool) → List ℕ → ℕ
+lowest f [] = 0
+lowest f (x ∷ xs) = cond (f x) x (lowest f xs)
+
 -- two lists of numbers are equal
 unfoldable pub equal : List ℕ → List ℕ → Bool
 equal [] [] = true
@@ -41,3 +46,22 @@ module _ {A : Type 0} where
   unfoldable pub all : (A → Bool) → List A → Bool
   all f [] = true
   all f (x ∷ xs) = f x && all f xs
+
+  unfoldable pub any : (A → Bool) → List A → Bool
+  any f [] = false
+  any f (x ∷ xs) = f x || any f xs
+
+  -- the elements that pass the test, in order
+  unfoldable pub filter : (A → Bool) → List A → List A
+  filter f [] = []
+  filter f (x ∷ xs) = cond (f x) (x ∷ filter f xs) (filter f xs)
+
+  -- the place of the first element that passes the test, counted from 0; the length where none does
+  unfoldable pub place : (A → Bool) → List A → ℕ
+  place f [] = 0
+  place f (x ∷ xs) = cond (f x) 0 (suc (place f xs))
+
+  -- the lists one after the other
+  unfoldable pub flat : List (List A) → List A
+  flat [] = []
+  flat (x ∷ xs) = x ++ flat xs

@@ -9,7 +9,7 @@ use Rattle.picture.specs.declared.Reading.{Reading}
 use Rattle.picture.specs.declared.Reading.the-variants.{Accepted, Refused}
 use Rattle.picture.specs.Picture.{headerOf}
 use Rattle.picture.specs.Faults.{pictureFault}
-use Rattle.picture.specs.Answers.{readingOf, reading}
+use Rattle.picture.specs.Answers.{readingOf, reading, Read}
 
 -- ---- from the number to the answer
 
@@ -23,11 +23,6 @@ told-refused zero h n = absurd (n refl)
 told-refused (suc k) h n = refl
 
 -- ---- from the answer to the number
-
--- accepted bytes have no fault, and the header is theirs
-pub record Read (bs : List ℕ) (h : Header) : Type 0 where
-  pub accepted : pictureFault bs ≡ 0
-  pub header : h ≡ headerOf bs
 
 pub accepted-read : (bs : List ℕ) (h : Header) → Accepted h ≡ reading bs → Read bs h
 unfolding reading readingOf

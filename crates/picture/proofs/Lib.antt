@@ -3,3 +3,4 @@ pub mod Starts
 pub mod Judging
 pub mod Accepted
 pub mod Answering
+pub mod Facts

@@ -1,5 +1,6 @@
 -- What reading a picture answers, by document 01's numbers. Assumes nothing.
 use mathlib.Core.List.{List}
+use mathlib.Core.Path.{_≡_}
 use Prim.Native.Nat.{ℕ, zero, suc}
 use Rattle.picture.specs.declared.Header.{Header}
 use Rattle.picture.specs.declared.Reading.{Reading}
@@ -14,3 +15,8 @@ readingOf (suc k) h = Refused (suc k)
 
 unfoldable pub reading : List ℕ → Reading
 reading bs = readingOf (pictureFault bs) (headerOf bs)
+
+-- the bytes are accepted, and the header is theirs: what the functions on an accepted picture rely on
+pub record Read (bs : List ℕ) (h : Header) : Type 0 where
+  pub accepted : pictureFault bs ≡ 0
+  pub header : h ≡ headerOf bs

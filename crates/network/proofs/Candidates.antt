@@ -1,0 +1,60 @@
+-- The candidates as a test and as a list are the blocks with a held near slot. Assumes nothing.
+use mathlib.Core.Path.{subst}
+use mathlib.Core.Bool.{_&&_}
+use mathlib.Core.Logic.{⊎-elim}
+use Prim.Native.Nat.{ℕ, _≤_, _<_, zero-le}
+use native.Mathlib.Omega.{arith}
+use native.Mathlib.Nat.{zero-add}
+use lib.Dec.{T}
+use lib.ListN.{length, getD}
+use Rattle.lists.specs.Lists.{range}
+use Rattle.lists.proofs.Tests.{and-T, T-and}
+use Rattle.lists.proofs.Ranges.{any-range, range-any}
+use Rattle.lists.proofs.Filters.{filter-below}
+use Rattle.lists.proofs.Picks.{item-inside, Placed, filter-passes, range-leaves, filter-rises}
+use Rattle.picture.specs.Picture.{Slot, Picture, slotOf}
+use Rattle.network.specs.Words.{slotCount, blockCount, inBlock, isHeld, Candidate}
+use Rattle.network.specs.Tests.{isCandidate, candidates}
+
+-- ---- the test
+
+-- a near slot is one of 1 to n: any other number has the default, which is not near
+pub near-slot : (p : Picture) (v : ℕ) → T (slotOf p v .near) → (1 ≤ v) × (v ≤ slotCount p)
+unfolding slotOf slotCount
+near-slot p v t = ⊎-elim (λ h. h) (λ e. absurd (subst (λ (s : Slot). T (s .near)) e t)) (item-inside (p .slots) v _)
+
+pub candidate-test : (p : Picture) (b : ℕ) → T (isCandidate p b) → Candidate p b
+unfolding isCandidate
+candidate-test p b t =
+    let r = any-range _ 1 (slotCount p) t in
+    let v = r .number in
+    let s = and-T (inBlock p b v) (isHeld p v && slotOf p v .near) (r .passes) in
+    let u = and-T (isHeld p v) (slotOf p v .near) (s .1) in
+    record { slot = v; inside = s .0; held = u .0; near = u .1 }
+
+pub test-candidate : {p : Picture} {b : ℕ} → Candidate p b → T (isCandidate p b)
+unfolding isCandidate
+test-candidate {p} {b} c =
+    let v = c .slot in
+    let l = near-slot p v (c .near) in
+    let t = T-and (inBlock p b v) (isHeld p v && slotOf p v .near) (c .inside) (T-and (isHeld p v) (slotOf p v .near) (c .held) (c .near)) in
+    range-any _ 1 (slotCount p) (record { number = v; from = l .0; below = omega arith; passes = t })
+
+-- ---- the list: of candidates, all of them, in rising order
+
+module _ (p : Picture) where
+  pub candidates-below : (j : ℕ) → j < length (candidates p) → getD (candidates p) j 0 < blockCount p
+  unfolding candidates
+  candidates-below j h = rw zero-add at (filter-below (isCandidate p) 0 (blockCount p) j h)
+
+  pub candidates-are : (j : ℕ) → j < length (candidates p) → Candidate p (getD (candidates p) j 0)
+  unfolding candidates
+  candidates-are j h = candidate-test p _ (filter-passes 0 (isCandidate p) (range 0 (blockCount p)) j h)
+
+  pub candidates-all : {b : ℕ} → b < blockCount p → Candidate p b → Placed 0 (candidates p) b
+  unfolding candidates
+  candidates-all {b} h c = range-leaves (isCandidate p) 0 (blockCount p) (record { number = b; from = zero-le; below = omega arith; passes = test-candidate c })
+
+  pub candidates-rise : (i j : ℕ) → i < j → j < length (candidates p) → getD (candidates p) i 0 < getD (candidates p) j 0
+  unfolding candidates
+  candidates-rise = filter-rises (isCandidate p) 0 (blockCount p)

@@ -1,0 +1,9 @@
+-- Laws of a picture's network: tests say what chains say, and rows of marks are as the loops make them.
+pub mod Named
+pub mod Service
+pub mod Weights
+pub mod Candidates
+pub mod Evicting
+pub mod Making
+pub mod Slots
+pub mod Ends

@@ -1,0 +1,89 @@
+-- Served weight, loss and mark are what the chains say, and weights are small numbers. Assumes nothing.
+use mathlib.Core.Path.{_≡_, refl, sym, subst}
+use mathlib.Core.Bool.{Bool, _&&_}
+use mathlib.Core.Logic.{⊎-elim}
+use mathlib.Core.List.{List}
+use Prim.Native.Nat.{ℕ, _^_, _≤_, _<_, zero-le}
+use native.Mathlib.Omega.{arith}
+use Rattle.lists.specs.Lists.{range, on, any}
+use Rattle.lists.proofs.Tests.{and-T, T-and}
+use Rattle.lists.proofs.Ranges.{any-range, range-any}
+use Rattle.lists.proofs.Faults.{on-true, on-pass, on-le}
+use Rattle.lists.proofs.Sums.{total, sum-le}
+use Rattle.lists.proofs.Picks.{item-inside}
+use Rattle.bits.proofs.Reading.{fieldAt-lt}
+use Rattle.picture.specs.Layout.{editionOf, endpointWidths}
+use Rattle.picture.specs.Picture.{Picture, Endpoint, headerOf, pictureOf, endpointAt, endpointOf}
+use Rattle.picture.specs.Faults.{pictureFault}
+use Rattle.picture.proofs.Starts.{field-first, endpoint-row}
+use Rattle.picture.proofs.Accepted.{accepted-kept}
+use Rattle.network.specs.Words.{endpointCount, isHeld, heldWithout, weightOf, Served, Cuts, ServedWeight, Loss, CutsProtected}
+use Rattle.network.specs.Tests.{marks, served, cut, weightWhere, weighed}
+use Rattle.network.proofs.Named.{Named, endpoints-counted}
+use Rattle.network.proofs.Service.{marked-served, served-marked, cut-cuts, cuts-cut}
+
+-- ---- the sums and the mark
+
+-- what the mark asks of each endpoint
+hurts : Picture → ℕ → ℕ → Bool
+hurts p b c = endpointOf p c .protected && cut p (marks p (isHeld p)) (marks p (heldWithout p b)) c
+
+module _ {p : Picture} (n : Named p) where
+  pub served-weight : (held : ℕ → Bool) → ServedWeight p held (weightWhere p (served p (marks p held)))
+  unfolding weightWhere
+  served-weight held = total (Served p held) (weightOf p) (served p (marks p held)) (marked-served p held) (λ c s. served-marked n s) 1 (endpointCount p)
+
+  pub loss-weight : (b : ℕ) → Loss p b (weighed p b .loss)
+  unfolding weighed weightWhere
+  loss-weight b = total (Cuts p b) (weightOf p) (cut p (marks p (isHeld p)) (marks p (heldWithout p b))) (cut-cuts n b) (λ c k. cuts-cut n k) 1 (endpointCount p)
+
+  pub mark-protected : (b : ℕ) → weighed p b .mark ≡ 1 → CutsProtected p b
+  unfolding weighed hurts
+  mark-protected b e =
+      let r = any-range (hurts p b) 1 (endpointCount p) (on-true (any (hurts p b) (range 1 (endpointCount p))) 1 (omega (arith, e))) in
+      let c = r .number in
+      let s = and-T (endpointOf p c .protected) (cut p (marks p (isHeld p)) (marks p (heldWithout p b)) c) (r .passes) in
+      record { endpoint = c; some = r .from; most = omega arith; protected = s .0; cut = cut-cuts n b c (s .1) }
+
+  pub protected-mark : {b : ℕ} → CutsProtected p b → weighed p b .mark ≡ 1
+  unfolding weighed hurts
+  protected-mark {b} k =
+      let c = k .endpoint in
+      let t = T-and (endpointOf p c .protected) (cut p (marks p (isHeld p)) (marks p (heldWithout p b)) c) (k .protected) (cuts-cut n (k .cut)) in
+      on-pass (any (hurts p b) (range 1 (endpointCount p))) 1 (range-any (hurts p b) 1 (endpointCount p) (record { number = c; from = k .some; below = omega (arith, k .most); passes = t }))
+
+module _ (p : Picture) (b : ℕ) where
+  pub mark-le : weighed p b .mark ≤ 1
+  unfolding weighed
+  mark-le = on-le _ 1 1 (λ t. omega arith)
+
+  pub weighed-block : weighed p b .block ≡ b
+  unfolding weighed
+  weighed-block = refl
+
+-- ---- sizes
+
+module _ (bs : List ℕ) where
+  -- a weight is a field of 16 bits
+  weight-field : (q : ℕ) → endpointAt bs q .weight ≤ 65535
+  unfolding endpointAt endpointWidths
+  weight-field q = rw field-first (omega (arith, fieldAt-lt bs q 16))
+
+  -- and 0 where the number is no endpoint's
+  pub weight-small : (c : ℕ) → weightOf (pictureOf bs) c ≤ 65535
+  unfolding weightOf pictureOf endpointOf endpointCount
+  weight-small c = ⊎-elim inside (λ e. subst (λ (x : Endpoint). x .weight ≤ 65535) (sym e) zero-le) (item-inside (pictureOf bs .endpoints) c _)
+    where
+      inside : (1 ≤ c) × (c ≤ endpointCount (pictureOf bs)) → endpointOf (pictureOf bs) c .weight ≤ 65535
+      inside h = rw (endpoint-row (editionOf bs) (headerOf bs) bs c (h .0) (omega (arith, endpoints-counted bs))) (weight-field _)
+
+  -- at most 200 endpoints: 200 * 65535 < 2 ^ 24
+  pub weights-small : pictureFault bs ≡ 0 → (f : ℕ → Bool) → weightWhere (pictureOf bs) f < 2 ^ 24
+  unfolding weightWhere
+  weights-small z f =
+      omega (
+        arith,
+        sum-le (λ c. on (f c) (weightOf (pictureOf bs) c)) 65535 1 (endpointCount (pictureOf bs)) (λ c. on-le (f c) _ 65535 (λ t. weight-small c)),
+        endpoints-counted bs,
+        accepted-kept bs z .counts .endpoints-most,
+      )

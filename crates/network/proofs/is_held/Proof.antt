@@ -1,0 +1,28 @@
+-- `is_held` tests a slot's state. Assumes nothing.
+use mathlib.Core.Path.{_≡_, refl, sym, ap, ap₂, _∙_}
+use Prim.Native.Nat.{ℕ, zero, suc, _≤_}
+use native.Mathlib.Nat.{not-suc-le-zero}
+use mathlib.Core.List.{List}
+use lib.Dec.{eqb}
+use Rattle.picture.specs.Picture.{Picture, slotOf, pictureOf}
+use Rattle.picture.proofs.Facts.{read-picture, read-limited}
+use Rattle.network.specs.Words.{isHeld}
+use Rattle.network.proofs.is_held.Statement.{statement}
+use Rattle.network.proofs.is_held.Tie as tie
+
+held-state : (p : Picture) (v : ℕ) → 1 ≤ v → eqb (slotOf p v .state) 0 ≡ isHeld p v
+unfolding isHeld
+held-state p zero l = absurd (not-suc-le-zero l)
+held-state p (suc i) l = refl
+
+slot-state-requires : tie.Need-slot-state-requires
+slot-state-requires c κs = (read-limited _ _ (c .before .pre .0), c .before .pre .1, c .before .pre .2)
+
+returns : tie.Need-returns
+returns c = 
+    let a = c .before .before .args in
+    let pre = c .before .before .pre in
+    ap (λ (x : ℕ). eqb x 0) (c .slot-state .ensures ∙ ap (λ (p : Picture). slotOf p (a .v) .state) (read-picture _ _ (pre .0))) ∙ held-state (pictureOf (a .s .now)) (a .v) (pre .1)
+
+pub is-held-spec : {M : Type 1} → statement M
+is-held-spec = tie.close (tie.spec slot-state-requires returns)

@@ -1,0 +1,53 @@
+-- The same by computation: what the examples compute with and the code is held to. The laws show each equal to its meaning by chains.
+-- Assumes nothing.
+use mathlib.Core.Bool.{Bool, false, not, _&&_}
+use mathlib.Core.List.{List, map}
+use Prim.Native.Nat.{ℕ}
+use lib.Dec.{eqb}
+use lib.ListN.{getD}
+use Rattle.lists.specs.Lists.{range, on, sum, any, filter}
+use Rattle.graph.specs.Rounds.{reachedIn}
+use Rattle.picture.specs.Picture.{Picture, slotOf, endpointOf}
+use Rattle.network.specs.Words.{slotCount, endpointCount, blockCount, inBlock, isHeld, heldWithout, joins, weightOf}
+
+-- the marks of the locations that are reached
+unfoldable pub marks : Picture → (ℕ → Bool) → List Bool
+marks p held = reachedIn (joins (p .links)) held (slotCount p)
+
+-- an endpoint is served, by the marks of what is reached
+unfoldable pub served : Picture → List Bool → ℕ → Bool
+served p t c = any (λ l. getD t (l .from) false && eqb (l .to) c) (p .services)
+
+-- it is served by the first marks and not by the second
+unfoldable pub cut : Picture → List Bool → List Bool → ℕ → Bool
+cut p now without c = served p now c && not (served p without c)
+
+-- the sum of the weights of the endpoints that a test picks, each once
+unfoldable pub weightWhere : Picture → (ℕ → Bool) → ℕ
+weightWhere p f = sum (map (λ c. on (f c) (weightOf p c)) (range 1 (endpointCount p)))
+
+unfoldable pub servedWeight : Picture → ℕ
+servedWeight p = let now : List Bool = marks p (isHeld p) in weightWhere p (served p now)
+
+-- what weighing a block gives: its loss, and its mark (1 if it cuts a protected endpoint, else 0)
+pub record Weighed : Type 0 where
+  pub block : ℕ
+  pub loss : ℕ
+  pub mark : ℕ
+
+unfoldable pub weighed : Picture → ℕ → Weighed
+weighed p b =
+    let now : List Bool = marks p (isHeld p) in
+    let without : List Bool = marks p (heldWithout p b) in
+    record {
+      block = b;
+      loss = weightWhere p (cut p now without);
+      mark = on (any (λ c. endpointOf p c .protected && cut p now without c) (range 1 (endpointCount p))) 1;
+    }
+
+unfoldable pub isCandidate : Picture → ℕ → Bool
+isCandidate p b = any (λ v. inBlock p b v && (isHeld p v && slotOf p v .near)) (range 1 (slotCount p))
+
+-- the candidates in rising order
+unfoldable pub candidates : Picture → List ℕ
+candidates p = filter (isCandidate p) (range 0 (blockCount p))

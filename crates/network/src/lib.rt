@@ -1,0 +1,135 @@
+// A picture's network as rows of marks: links, service links, held and near slots, blocks, and the endpoints' weights.
+ghost use mathlib.Core.Path.{_≡_};
+ghost use Prim.Native.Nat.{ℕ, _+_, _*_, _≤_};
+ghost use Rattle.picture.specs.Picture.{pictureOf};
+ghost use Rattle.picture.specs.Answers.{Read};
+ghost use Rattle.network.specs.Words.{joins, isHeld};
+ghost use Rattle.network.specs.Rows.{RowsOf, isNearHeld, SlotRowsOf, BlockRow, EndpointsOf};
+
+use picture::{ENDPOINTS_MAX, HELD, Header};
+use rows::{LOCATIONS, WORDS};
+
+// A place for each endpoint by its number, and for 0.
+pub const ENDPOINTS: usize = ENDPOINTS_MAX + 1;
+
+// The held slots, and those of them that are near.
+pub struct SlotRows {
+    pub held: [u64; WORDS],
+    pub near: [u64; WORDS],
+}
+
+// The endpoints' weights, and the protected ones.
+pub struct Endpoints {
+    pub weights: [u32; ENDPOINTS],
+    pub protected: [u64; WORDS],
+}
+
+// The links: row a marks b where a link leads from a to b.
+pub fn link_rows(s: &[u8], h: Header) -> [[u64; WORDS]; LOCATIONS]
+    requires { ⌜ Read (now s) h ⌝ }
+    ensures { λ r. ⌜ RowsOf (joins (pictureOf (now (s .entry)) .links)) r ⌝ }
+{
+    let mut table = [[0u64; WORDS]; LOCATIONS];
+    let count = h.links;
+    let mut i: usize = 0;
+    while i < count {
+        let l = picture::nth_link(s, h, i);
+        rows::mark(&mut table, l.from, l.to);
+        i += 1;
+    }
+    table
+}
+
+// The service links: row c marks each location that serves endpoint c.
+pub fn service_rows(s: &[u8], h: Header) -> [[u64; WORDS]; LOCATIONS]
+    requires { ⌜ Read (now s) h ⌝ }
+    ensures { λ r. ⌜ RowsOf (λ c a. joins (pictureOf (now (s .entry)) .services) a c) r ⌝ }
+{
+    let mut table = [[0u64; WORDS]; LOCATIONS];
+    let count = h.service_links;
+    let mut i: usize = 0;
+    while i < count {
+        let l = picture::nth_service_link(s, h, i);
+        rows::mark(&mut table, l.to, l.from);
+        i += 1;
+    }
+    table
+}
+
+// Whether slot v is held.
+fn is_held(s: &[u8], h: Header, v: usize) -> bool
+    requires { ⌜ Read (now s) h × (1 ≤ v) × (v ≤ h .slots) ⌝ }
+    ensures { λ r. ⌜ r ≡ isHeld (pictureOf (now (s .entry))) v ⌝ }
+{
+    picture::slot_state(s, h, v) == HELD
+}
+
+// Whether slot v is held and near.
+fn is_near_held(s: &[u8], h: Header, v: usize) -> bool
+    requires { ⌜ Read (now s) h × (1 ≤ v) × (v ≤ h .slots) ⌝ }
+    ensures { λ r. ⌜ r ≡ isNearHeld (pictureOf (now (s .entry))) v ⌝ }
+{
+    if is_held(s, h, v) {
+        return picture::slot_near(s, h, v);
+    }
+    false
+}
+
+// The held slots and the held near slots.
+pub fn slot_rows(s: &[u8], h: Header) -> SlotRows
+    requires { ⌜ Read (now s) h ⌝ }
+    ensures { λ r. ⌜ SlotRowsOf (pictureOf (now (s .entry))) (r .held) (r .near) ⌝ }
+{
+    let n = h.slots;
+    let mut held = [0u64; WORDS];
+    let mut near = [0u64; WORDS];
+    let mut v: usize = 1;
+    while v <= n {
+        if is_held(s, h, v) {
+            let more = rows::with(held, v);
+            held = more;
+        }
+        if is_near_held(s, h, v) {
+            let more = rows::with(near, v);
+            near = more;
+        }
+        v += 1;
+    }
+    SlotRows { held, near }
+}
+
+// The slots of block b.
+pub fn block_row(size: usize, b: usize) -> [u64; WORDS]
+    requires { ⌜ (size ≤ 15) × (b * size + size ≤ 240) ⌝ }
+    ensures { λ r. ⌜ BlockRow size b r ⌝ }
+{
+    let start = b * size;
+    let mut row = [0u64; WORDS];
+    let mut k: usize = 0;
+    while k < size {
+        k += 1;
+        let more = rows::with(row, start + k);
+        row = more;
+    }
+    row
+}
+
+// The endpoints' weights and the protected ones.
+pub fn endpoint_rows(s: &[u8], h: Header) -> Endpoints
+    requires { ⌜ Read (now s) h ⌝ }
+    ensures { λ r. ⌜ EndpointsOf (pictureOf (now (s .entry))) (r .weights) (r .protected) ⌝ }
+{
+    let d = h.endpoints;
+    let mut weights = [0u32; ENDPOINTS];
+    let mut protected = [0u64; WORDS];
+    let mut c: usize = 1;
+    while c <= d {
+        weights[c] = picture::endpoint_weight(s, h, c) as u32;
+        if picture::endpoint_protected(s, h, c) {
+            let more = rows::with(protected, c);
+            protected = more;
+        }
+        c += 1;
+    }
+    Endpoints { weights, protected }
+}

@@ -1,0 +1,45 @@
+-- What is known of an accepted picture and its header. Assumes nothing.
+use mathlib.Core.Path.{_≡_, sym, ap, _∙_, subst}
+use mathlib.Core.List.{List}
+use Prim.Native.Nat.{ℕ, _≤_}
+use lib.ListN.{length}
+use Rattle.picture.specs.declared.Header.{Header}
+use Rattle.picture.specs.Layout.{edition1, sizeOf}
+use Rattle.picture.specs.Picture.{Picture, headerOf, pictureOf, pictureWith}
+use Rattle.picture.specs.Rules.{Sizes, Counts, Links, Services, Kept, Limited}
+use Rattle.picture.specs.Answers.{Read}
+use Rattle.picture.proofs.Starts.{slots-length, endpoints-length, links-length, services-length}
+use Rattle.picture.proofs.Accepted.{accepted-kept}
+
+module _ (bs : List ℕ) (h : Header) (r : Read bs h) where
+  -- the fields that are found with this header are the picture's
+  pub read-picture : pictureWith edition1 h bs ≡ pictureOf bs
+  unfolding pictureOf
+  read-picture = ap (λ (k : Header). pictureWith edition1 k bs) (r .header)
+
+  -- its numbers keep their limits
+  pub read-sizes : Sizes edition1 h
+  read-sizes = subst (Sizes edition1) (sym (r .header)) (accepted-kept bs (r .accepted) .sizes)
+
+  pub read-limited : Limited h
+  read-limited = record { slots = read-sizes .slots-most; counts = subst Counts (sym (r .header)) (accepted-kept bs (r .accepted) .counts) }
+
+  -- and its links name what is there
+  pub read-links : Links (h .slots) (pictureOf bs)
+  read-links = subst (λ (k : Header). Links (k .slots) (pictureOf bs)) (sym (r .header)) (accepted-kept bs (r .accepted) .links)
+
+  pub read-services : Services (h .slots) (h .endpoints) (pictureOf bs)
+  read-services = subst (λ (k : Header). Services (k .slots) (k .endpoints) (pictureOf bs)) (sym (r .header)) (accepted-kept bs (r .accepted) .services)
+
+  -- the lists are as long as it says
+  pub read-slots-length : length (pictureOf bs .slots) ≡ h .slots
+  read-slots-length = ap (λ (p : Picture). length (p .slots)) (sym read-picture) ∙ slots-length edition1 h bs
+
+  pub read-endpoints-length : length (pictureOf bs .endpoints) ≡ h .endpoints
+  read-endpoints-length = ap (λ (p : Picture). length (p .endpoints)) (sym read-picture) ∙ endpoints-length edition1 h bs
+
+  pub read-links-length : length (pictureOf bs .links) ≡ h .links
+  read-links-length = ap (λ (p : Picture). length (p .links)) (sym read-picture) ∙ links-length edition1 h bs
+
+  pub read-services-length : length (pictureOf bs .services) ≡ h .«service_links»
+  read-services-length = ap (λ (p : Picture). length (p .services)) (sym read-picture) ∙ services-length edition1 h bs
