@@ -14,3 +14,4 @@ pub mod Steps
 pub mod Marking
 pub mod Settling
 pub mod Nodes
+pub mod Keeping

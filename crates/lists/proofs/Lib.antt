@@ -8,3 +8,4 @@ pub mod Faults
 pub mod Sums
 pub mod Prefixes
 pub mod Picks
+pub mod Ends

@@ -2,12 +2,20 @@
 ghost use mathlib.Core.Path.{_≡_};
 ghost use Prim.Native.Nat.{_<_};
 ghost use lib.ListN.{length};
-ghost use Rattle.rows.specs.Rows.{With, Linked, Differ, Minus, NoneMarked, Meet};
+ghost use Rattle.rows.specs.Rows.{marked, With, Linked, Differ, Minus, NoneMarked, Meet};
 
 // Locations are 0, the origin, and the slots 1 to 240.
 pub const LOCATIONS: usize = 241;
 // A row marks up to 256 locations, 64 to a word.
 pub const WORDS: usize = 4;
+
+// Whether v is marked.
+pub fn has(row: [u64; WORDS], v: usize) -> bool
+    requires { ⌜ v < 256 ⌝ }
+    ensures { λ r. ⌜ r ≡ marked row v ⌝ }
+{
+    (row[v / 64] >> (v % 64)) & 1 == 1
+}
 
 // The row with v marked too.
 pub fn with(row: [u64; WORDS], v: usize) -> [u64; WORDS]

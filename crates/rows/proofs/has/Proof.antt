@@ -1,0 +1,26 @@
+-- `has` looks at one digit. Assumes nothing.
+use mathlib.Core.Path.{ap}
+use Prim.Native.Nat.{ℕ, _/_, _%_, _^_}
+use lib.Bits.{and-mask}
+use lib.Dec.{eqb}
+use lib.ListN.{getD}
+use Rattle.rows.specs.Rows.{bit, marked}
+use borrow.Author.Needs.{needs}
+use Rattle.rows.proofs.has.Statement.{statement}
+use Rattle.rows.proofs.has.Tie as tie
+
+mul-result : tie.Need-mul-result
+mul-result c = search needs
+
+array-read-result : tie.Need-array-read-result
+array-read-result c = search needs
+
+shr-result : tie.Need-shr-result
+shr-result c = search needs
+
+returns : tie.Need-returns
+unfolding bit marked
+returns c = ap (λ (x : ℕ). eqb x 1) (and-mask (getD (c .args .t1) (c .args .v / 64) 0 / 2 ^ (c .args .v % 64)) 1)
+
+pub has-spec : {M : Type 1} → statement M
+has-spec = tie.close (tie.spec mul-result array-read-result shr-result returns)

@@ -1,0 +1,43 @@
+-- What weighing answers, by the number of the first fault. Assumes nothing.
+use mathlib.Core.Path.{_≡_, refl, sym, ap, _∙_}
+use mathlib.Core.Logic.{_≢_}
+use mathlib.Core.List.{List, []}
+use Prim.Native.Nat.{ℕ, zero, suc, _≤_, _<_}
+use native.Mathlib.Omega.{arith}
+use borrow.Author.Tests.{le-leb, lt-leb}
+use Rattle.lists.specs.Lists.{on, first}
+use Rattle.lists.proofs.Faults.{stop-at, skip-at, end-at}
+use Rattle.picture.specs.Picture.{pictureOf}
+use Rattle.picture.specs.Faults.{pictureFault}
+use Rattle.network.specs.Words.{blockCount}
+use Rattle.weigh.specs.declared.Weights.{Weights}
+use Rattle.weigh.specs.declared.Weighing.{Weighing}
+use Rattle.weigh.specs.declared.Weighing.the-variants.{Weighed, Refused}
+use Rattle.weigh.specs.Weighing.{blockFault, weighFault, weightsOf, weighingOf, weighing}
+
+told-refused : (k : ℕ) (w : Weights) → k ≢ 0 → Refused k ≡ weighingOf k w
+unfolding weighingOf
+told-refused zero w n = absurd (n refl)
+told-refused (suc k) w n = refl
+
+module _ (bs : List ℕ) (b : ℕ) where
+  refused : (k : ℕ) → k ≢ 0 → k ≡ weighFault bs b → Refused k ≡ weighing bs b
+  unfolding weighing
+  refused k n e = told-refused k (weightsOf (pictureOf bs) b) n ∙ ap (λ (j : ℕ). weighingOf j (weightsOf (pictureOf bs) b)) e
+
+  -- the picture has a fault
+  pub weigh-faulty : (k : ℕ) → k ≢ 0 → pictureFault bs ≡ k → Refused k ≡ weighing bs b
+  unfolding weighFault
+  weigh-faulty k n e = refused k n (stop-at _ n (sym e))
+
+  -- there is no such block
+  pub weigh-no-block : pictureFault bs ≡ 0 → blockCount (pictureOf bs) ≤ b → Refused 8 ≡ weighing bs b
+  unfolding weighFault blockFault on
+  weigh-no-block z l = refused 8 (λ e. absurd (omega arith)) (skip-at {x = 0} _ refl (sym z) (stop-at {x = 8} _ (λ e. absurd (omega arith)) (rw (le-leb (blockCount (pictureOf bs)) b l))))
+
+  -- nothing is wrong
+  pub weigh-told : pictureFault bs ≡ 0 → b < blockCount (pictureOf bs) → Weighed (weightsOf (pictureOf bs) b) ≡ weighing bs b
+  unfolding weighing weighingOf weighFault blockFault on
+  weigh-told z l =
+      ap (λ (j : ℕ). weighingOf j (weightsOf (pictureOf bs) b))
+      (skip-at {x = 0} _ refl (sym z) (skip-at {x = 0} _ refl (rw (lt-leb (blockCount (pictureOf bs)) b l)) end-at))

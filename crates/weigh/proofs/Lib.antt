@@ -1,0 +1,5 @@
+-- Laws of weighing.
+pub mod Picking
+pub mod Serving
+pub mod Blocks
+pub mod Answering

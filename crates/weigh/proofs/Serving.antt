@@ -1,0 +1,118 @@
+-- What the rows of a picture give: the walk over them reaches what chains reach, their common marks are service, and the sums over them
+-- are the weights of the specification. Assumes nothing.
+use mathlib.Core.Path.{_≡_, refl, sym, ap, ap₂, _∙_, subst, subst₂, fun-ext}
+use mathlib.Core.Bool.{Bool, true, false, not, _&&_, _||_}
+use mathlib.Core.List.{List, [], map}
+use Prim.Native.Nat.{ℕ, zero, suc, _+_, _*_, _≤_, _<_, zero-le, suc-le-suc}
+use native.Mathlib.Omega.{arith}
+use borrow.Author.Tests.{lt-leb}
+use lib.Dec.{T, T-not, not-T, eqb, leb, eqb·suc-zero}
+use lib.ListN.{length, getD}
+use Rattle.lists.specs.Lists.{range, on, sum, any}
+use Rattle.lists.proofs.Tests.{and-T}
+use Rattle.rows.specs.Rows.{marked, linkedIn, Meet, Minus}
+use Rattle.graph.specs.Chains.{Reached}
+use Rattle.graph.specs.Held.{heldIn, SlotsOnly}
+use Rattle.graph.specs.Steps.{Walked}
+use Rattle.picture.specs.Picture.{Picture, endpointOf}
+use Rattle.network.specs.Words.{endpointCount, inBlock, isHeld, heldWithout, joins, weightOf, Served}
+use Rattle.network.specs.Tests.{marks, served, cut, weightWhere, servedWeight, weighed}
+use Rattle.network.specs.Rows.{RowsOf, SlotRowsOf, EndpointsOf, BlockRow}
+use Rattle.network.proofs.Named.{Named}
+use Rattle.network.proofs.Service.{marked-served, served-marked}
+use Rattle.weigh.specs.Sums.{Meets, LostBetween, weightBetween, markBetween}
+
+-- ---- the walk
+
+-- a walk over rows that say what the picture says is a walk over the picture
+pub walked-over : (p : Picture) (held : ℕ → Bool) (table : List (List ℕ)) (row : List ℕ) (reaches : ℕ → Bool) (parent depth : List ℕ) → RowsOf (joins (p .links)) table → ((v : ℕ) → heldIn row v ≡ held v)
+    → Walked (linkedIn table) (heldIn row) reaches parent depth → Walked (joins (p .links)) held reaches parent depth
+walked-over p held table row reaches parent depth t h w =
+    subst₂ (λ (l : ℕ → ℕ → Bool) (k : ℕ → Bool). Walked l k reaches parent depth) (fun-ext (λ a. fun-ext (λ b. t .same a b))) (fun-ext h) w
+
+-- the held slots less those of a block
+module _ (p : Picture) (b : ℕ) (holding nearby block left : List ℕ) (s : SlotRowsOf p holding nearby) (k : BlockRow (p .blockSize) b block) (m : Minus holding block left) where
+  pub left-slots : SlotsOnly left
+  left-slots = record { above = λ v t. s .slots .above v (was v t); within = λ v t. s .slots .within v (was v t) }
+    where
+      was : (v : ℕ) → T (marked left v) → T (marked holding v)
+      was v t = and-T (marked holding v) (not (marked block v)) (subst T (m .marks v) t) .0
+
+  pub left-held : (v : ℕ) → heldIn left v ≡ heldWithout p b v
+  unfolding heldIn heldWithout inBlock isHeld
+  left-held zero = sym (ap (λ (y : Bool). not (y && leb 0 (b * p .blockSize + p .blockSize))) (lt-leb (b * p .blockSize + 1) 0 (omega arith)))
+  left-held (suc i) =
+      ap (λ (x : Bool). x || marked left (suc i)) (eqb·suc-zero i) ∙ m .marks (suc i)
+      ∙ ap₂ (λ (x y : Bool). x && not y) (sym (ap (λ (x : Bool). x || marked holding (suc i)) (eqb·suc-zero i)) ∙ s .held (suc i)) (k .marks (suc i))
+
+-- ---- service
+
+-- an endpoint is served exactly where its row has a mark in common with the row of what is reached
+pub serving : (p : Picture) (held : ℕ → Bool) (table : List (List ℕ)) (row parent depth : List ℕ) → Named p → RowsOf (λ c a. joins (p .services) a c) table
+    → Walked (joins (p .links)) held (marked row) parent depth → Meets table row (served p (marks p held))
+unfolding linkedIn
+serving p held table row parent depth n t w = record { meet = meet }
+  where
+    meet : (c : ℕ) → Meet (getD table c []) row (served p (marks p held) c)
+    meet c =
+        record {
+          common = λ s. let r = marked-served p held c s in (r .location, subst T (sym (t .same c (r .location))) (r .serves), w .reached-marks (r .location) (r .reached));
+          apart =
+              λ s v a b.
+              T-not (served p (marks p held) c) s
+              (served-marked n (record { location = v; serves = subst T (t .same c v) a; reached = w .marks-reached v b }));
+        }
+
+-- nothing is served by nothing
+pub none-served : (table : List (List ℕ)) (row : List ℕ) → ((v : ℕ) → ¬ T (marked row v)) → Meets table row (λ _. false)
+none-served table row n = record { meet = λ c. record { common = λ t. absurd t; apart = λ t v a b. n v b } }
+
+-- ---- the sums
+
+module _ (p : Picture) (weights guarded : List ℕ) (e : EndpointsOf p weights guarded) (d : ℕ) (many : d ≡ endpointCount p) (f g : ℕ → Bool) where
+  pub between-weight : weightBetween weights d f g ≡ weightWhere p (λ c. f c && not (g c))
+  unfolding weightBetween weightWhere
+  between-weight =
+      ap₂ (λ (h : ℕ → ℕ) (k : ℕ). sum (map h (range 1 k))) (fun-ext (λ c. ap (λ (x : ℕ). on (f c && not (g c)) x) (e .weight c))) many
+
+  pub between-mark : markBetween guarded d f g ≡ on (any (λ c. endpointOf p c .protected && (f c && not (g c))) (range 1 (endpointCount p))) 1
+  unfolding markBetween
+  between-mark =
+      ap₂ (λ (h : ℕ → Bool) (k : ℕ). on (any h (range 1 k)) 1) (fun-ext (λ c. ap (λ (x : Bool). x && (f c && not (g c))) (e .protected c))) many
+
+-- with nothing left, what is lost is all that is served
+pub all-served : (p : Picture) (f : ℕ → Bool) → weightWhere p (λ c. f c && not false) ≡ weightWhere p f
+all-served p f = ap (weightWhere p) (fun-ext (λ c. whole (f c)))
+  where
+    whole : (x : Bool) → (x && not false) ≡ x
+    whole true = refl
+    whole false = refl
+
+-- ---- what weighing gives
+
+module _ (p : Picture) (table : List (List ℕ)) (weights guarded : List ℕ) (d : ℕ) (named : Named p) (t : RowsOf (λ c a. joins (p .services) a c) table) (e : EndpointsOf p weights guarded)
+    (many : d ≡ endpointCount p) (row parent depth : List ℕ) (now : Walked (joins (p .links)) (isHeld p) (marked row) parent depth) where
+  pub served-value : (none : List ℕ) (w m : ℕ) → ((v : ℕ) → ¬ T (marked none v)) → LostBetween table weights guarded d row none w m → w ≡ servedWeight p
+  unfolding servedWeight
+  served-value none w m n l =
+      l .weighs (served p (marks p (isHeld p))) (λ _. false) (serving p (isHeld p) table row parent depth named t now) (none-served table none n)
+      ∙ between-weight p weights guarded e d many (served p (marks p (isHeld p))) (λ _. false) ∙ all-served p (served p (marks p (isHeld p)))
+
+  module _ (b : ℕ) (row′ parent′ depth′ : List ℕ) (without : Walked (joins (p .links)) (heldWithout p b) (marked row′) parent′ depth′) (w m : ℕ) (l : LostBetween table weights guarded d row row′ w m) where
+    before : ℕ → Bool
+    before = served p (marks p (isHeld p))
+
+    after : ℕ → Bool
+    after = served p (marks p (heldWithout p b))
+
+    pub loss-value : w ≡ weighed p b .loss
+    unfolding weighed cut before after
+    loss-value =
+        l .weighs before after (serving p (isHeld p) table row parent depth named t now) (serving p (heldWithout p b) table row′ parent′ depth′ named t without)
+        ∙ between-weight p weights guarded e d many before after
+
+    pub mark-value : m ≡ weighed p b .mark
+    unfolding weighed cut before after
+    mark-value =
+        l .marks before after (serving p (isHeld p) table row parent depth named t now) (serving p (heldWithout p b) table row′ parent′ depth′ named t without)
+        ∙ between-mark p weights guarded e d many before after

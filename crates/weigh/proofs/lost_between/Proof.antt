@@ -1,0 +1,122 @@
+-- `lost_between` sums over the endpoints that are lost. Assumes nothing.
+use mathlib.Core.Path.{_≡_, refl, sym, ap, ap₂, _∙_}
+use native.Mathlib.Omega.{arith}
+use mathlib.Core.Bool.{Bool, true, false, not, _&&_}
+use mathlib.Core.List.{List}
+use mathlib.Core.Logic.{⊎-elim}
+use Prim.Native.Nat.{ℕ, _+_, _-_, _≤_}
+use native.Mathlib.Nat.{add-zero, zero-add}
+use lib.ListN.{length, getD}
+use Rattle.lists.specs.Lists.{on}
+use Rattle.rows.specs.Rows.{marked}
+use Rattle.weigh.specs.Sums.{Small}
+use Rattle.weigh.proofs.Picking.{Picking, picking-begun, picking-next, picking-ended}
+use borrow.Author.Needs.{needs}
+use Rattle.weigh.proofs.lost_between.Statement.{statement}
+use Rattle.weigh.proofs.lost_between.Tie as tie
+
+record Loop (services : List (List ℕ)) (weights protected : List ℕ) (d : ℕ) (before after : List ℕ) (weight mark c : ℕ) : Type 0 where
+  pub within : c ≤ d + 1
+  pub few : d ≤ 200
+  pub many : length services ≡ 241
+  pub small : Small weights
+  pub picking : Picking services weights protected before after weight mark c
+
+abbrev Inv-loop : tie.InvT-loop
+Inv-loop services weights protected d before after weight₀ mark₀ c₀ weight mark c = Loop services weights protected d before after weight mark c
+
+abbrev μ-loop : tie.MeasureT-loop
+μ-loop services weights protected d before after weight₀ mark₀ c₀ weight mark c = d + 1 - c
+
+-- a lost endpoint's weight is added
+weight-next : (c : tie.Joined1 Inv-loop μ-loop)
+    → c .if1 .weight ≡ c .before .before .before .before .loop .weight + on (c .before .is-lost .result) (getD (c .before .before .before .before .before .args .weights .now) (c .before .before .before .before .loop .c) 0)
+unfolding on
+weight-next c =
+    let l = c .before .before .before .before .loop in
+    let w = getD (c .before .before .before .before .before .args .weights .now) (l .c) 0 in
+    ⊎-elim 
+    (λ x. x .2 ∙ ap (λ (b : Bool). l .weight + on b w) (sym (x .0 .taken)))
+    (λ x. x .1 ∙ sym (ap (λ (b : Bool). l .weight + on b w) (x .0 .left) ∙ add-zero (l .weight)))
+    (c .if1 .came)
+
+-- a lost protected endpoint sets the mark
+mark-next : (c : tie.Joined2 Inv-loop μ-loop)
+    → on (marked (c .before .before .before .before .before .before .before .args .protected) (c .before .before .before .before .before .before .loop .c) && c .before .before .before .is-lost .result) 1
+    + on (not (marked (c .before .before .before .before .before .before .before .args .protected) (c .before .before .before .before .before .before .loop .c) && c .before .before .before .is-lost .result)) (c .before .before .before .before .before .before .loop .mark)
+    ≡ c .if2 .mark
+unfolding on
+mark-next c =
+    let l = c .before .before .before .before .before .before .loop in
+    ⊎-elim 
+    (λ x. ap (λ (b : Bool). on b 1 + on (not b) (l .mark)) (sym (c .before .is-lost-protected .ensures) ∙ x .0 .taken) ∙ sym (x .1))
+    (λ x. ap (λ (b : Bool). on b 1 + on (not b) (l .mark)) (sym (c .before .is-lost-protected .ensures) ∙ x .0 .left) ∙ zero-add (l .mark) ∙ sym (x .1))
+    (c .if2 .came)
+
+loop-holds : tie.Need-loop-holds Inv-loop μ-loop
+loop-holds c = 
+    record { within = omega arith; few = c .pre .2; many = c .pre .1; small = c .pre .0; picking = picking-begun _ _ _ _ _ }
+
+mul-row : tie.Need-mul-row Inv-loop μ-loop
+mul-row c = search needs
+
+element-copy-out-row : tie.Need-element-copy-out-row Inv-loop μ-loop
+element-copy-out-row c = search needs
+
+is-lost-requires : tie.Need-is-lost-requires Inv-loop μ-loop
+is-lost-requires c κs = search needs
+
+mul-weight : tie.Need-mul-weight Inv-loop μ-loop
+mul-weight c = search needs
+
+element-copy-out-weight : tie.Need-element-copy-out-weight Inv-loop μ-loop
+element-copy-out-weight c = search needs
+
+add-weight : tie.Need-add-weight Inv-loop μ-loop
+add-weight c = 
+    let l = c .before .before .before .before .before .loop in
+    omega (arith, l .inv .picking .small, l .inv .small .weight (l .c))
+
+is-lost-protected-requires : tie.Need-is-lost-protected-requires Inv-loop μ-loop
+is-lost-protected-requires c κs = search needs
+
+add-c : tie.Need-add-c Inv-loop μ-loop
+add-c c = search needs
+
+loop-less : tie.Need-loop-less Inv-loop μ-loop
+loop-less c = search needs
+
+loop-again : tie.Need-loop-again Inv-loop μ-loop
+loop-again c = 
+    let l = c .before .before .before .before .before .before .loop in
+    record {
+      within = omega arith;
+      few = l .inv .few;
+      many = l .inv .many;
+      small = l .inv .small;
+      picking =
+          picking-next _ _ _ _ _ (l .weight) (l .mark) _ _ (l .c) _ (l .inv .picking) (l .inv .small .weight (l .c)) (c .before .before .before .is-lost .ensures) (weight-next (c .before .before))
+          (mark-next c);
+    }
+
+returns : tie.Need-returns Inv-loop μ-loop
+returns c = picking-ended _ _ _ _ _ _ _ (c .before .loop .c) _ (c .before .loop .inv .picking) (omega (arith, c .before .loop .inv .within))
+
+pub lost-between-spec : {M : Type 1} → statement M
+lost-between-spec =
+    tie.close
+    (tie.spec
+    Inv-loop
+    μ-loop
+    loop-holds
+    mul-row
+    element-copy-out-row
+    is-lost-requires
+    mul-weight
+    element-copy-out-weight
+    add-weight
+    is-lost-protected-requires
+    add-c
+    loop-less
+    loop-again
+    returns)

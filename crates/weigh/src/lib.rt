@@ -1,0 +1,128 @@
+// Weighing a block: the served weight, the weight that is lost without the block, and whether a protected endpoint is cut.
+ghost use mathlib.Core.Path.{_≡_};
+ghost use mathlib.Core.Bool.{_&&_};
+ghost use mathlib.Core.List.{List};
+ghost use Prim.Native.Nat.{ℕ, _≤_, _<_};
+ghost use lib.ListN.{length, getD};
+ghost use Rattle.rows.specs.Rows.{marked};
+ghost use Rattle.picture.specs.Picture.{pictureOf};
+ghost use Rattle.picture.specs.Answers.{Read};
+ghost use Rattle.network.specs.Words.{blockCount};
+ghost use Rattle.weigh.specs.Sums.{Small, LostRow, LostBetween};
+ghost use Rattle.weigh.specs.Weighing.{weightsOf, weighing};
+
+use network::ENDPOINTS;
+use picture::{Header, Reading};
+use rows::{LOCATIONS, WORDS};
+
+// What weighing gives.
+pub struct Weights {
+    pub served: u32,
+    pub loss: u32,
+    pub mark: u8,
+}
+
+pub enum Weighing {
+    Weighed(Weights),
+    Refused(u8),
+}
+
+// The weight of some endpoints, and 1 if one of them is protected, else 0.
+pub struct Lost {
+    pub weight: u32,
+    pub mark: u8,
+}
+
+// Whether a location of `before` serves an endpoint, whose serving locations are the row's, and none of `after` does.
+fn is_lost(row: [u64; WORDS], before: [u64; WORDS], after: [u64; WORDS]) -> bool
+    ensures { λ r. ⌜ LostRow row before after r ⌝ }
+{
+    if rows::meet(row, before) {
+        return !rows::meet(row, after);
+    }
+    false
+}
+
+// Whether an endpoint is lost and protected.
+fn is_lost_protected(lost: bool, protected: [u64; WORDS], c: usize) -> bool
+    requires { ⌜ c < 256 ⌝ }
+    ensures { λ r. ⌜ r ≡ (marked protected c && lost) ⌝ }
+{
+    if lost {
+        return rows::has(protected, c);
+    }
+    false
+}
+
+// The endpoints that the locations of `before` serve and those of `after` do not.
+pub fn lost_between(
+    services: &[[u64; WORDS]; LOCATIONS],
+    weights: &[u32; ENDPOINTS],
+    protected: [u64; WORDS],
+    d: usize,
+    before: [u64; WORDS],
+    after: [u64; WORDS],
+) -> Lost
+    requires { ⌜ Small (now weights) × (length (now services) ≡ 241) × (d ≤ 200) ⌝ }
+    ensures { λ r. ⌜ LostBetween (now (services .entry)) (now (weights .entry)) protected d before after (r .weight) (r .mark) ⌝ }
+{
+    let mut weight: u32 = 0;
+    let mut mark: u8 = 0;
+    let mut c: usize = 1;
+    while c <= d {
+        let row = services[c];
+        let lost = is_lost(row, before, after);
+        if lost {
+            weight += weights[c];
+        }
+        if is_lost_protected(lost, protected, c) {
+            mark = 1;
+        }
+        c += 1;
+    }
+    Lost { weight, mark }
+}
+
+// Weighs a block of an accepted picture.
+pub fn weigh_block(s: &[u8], h: Header, b: usize) -> Weights
+    requires { ⌜ Read (now s) h × (b < blockCount (pictureOf (now s))) ⌝ }
+    ensures { λ r. ⌜ r ≡ weightsOf (pictureOf (now (s .entry))) b ⌝ }
+{
+    let size = h.block_size;
+    let d = h.endpoints;
+    let links = network::link_rows(s, h);
+    let services = network::service_rows(s, h);
+    let slots = network::slot_rows(s, h);
+    let ends = network::endpoint_rows(s, h);
+    let held = slots.held;
+    let left = rows::minus(held, network::block_row(size, b));
+    let before = graph::walk(links, held);
+    let after = graph::walk(links, left);
+    let weights = ends.weights;
+    let protected = ends.protected;
+    let reached = before.reached;
+    let still = after.reached;
+    let none = [0u64; WORDS];
+    let all = lost_between(&services, &weights, protected, d, reached, none);
+    let lost = lost_between(&services, &weights, protected, d, reached, still);
+    Weights {
+        served: all.weight,
+        loss: lost.weight,
+        mark: lost.mark,
+    }
+}
+
+// Weighs block b of a picture of any bytes.
+pub fn weigh(s: &[u8], b: u32) -> Weighing
+    ensures { λ r. ⌜ r ≡ weighing (now (s .entry)) b ⌝ }
+{
+    match picture::read(s) {
+        Reading::Refused(number) => Weighing::Refused(number),
+        Reading::Accepted(h) => {
+            if h.slots / h.block_size <= b as usize {
+                return Weighing::Refused(8);
+            }
+            Weighing::Weighed(weigh_block(s, h, b as usize))
+        }
+    }
+}
