@@ -5,17 +5,21 @@ use Prim.Native.Nat.{ℕ, _<_}
 use lib.Dec.{T}
 use lib.ListN.{length, getD}
 use Rattle.bits.specs.Bits.{bitAt, number, fieldAt}
-use Rattle.lists.specs.Lists.{range, on, first, sum, equal, item, all}
+use Rattle.lists.specs.Lists.{range, on, first, sum, equal, item, all, any}
 use Rattle.lists.proofs.Tests.{all-at, equal-same}
 use Rattle.picture.specs.Layout.{headerWidths, slotWidths, endpointWidths, linkWidths, serviceWidths, fieldIn, slotsAt, endpointsAt, linksAt, servicesAt, endAt, sizeOf}
 use Rattle.picture.specs.Picture.{headerIn, slotAt, endpointAt, linkAt, rows, pictureWith, headerOf, pictureOf, slotOf, endpointOf}
 use Rattle.picture.specs.Faults.{sizesRight, countsRight, slotFault, linkFault, serviceFault, endRight, partFaults, faultsWith, pictureFault}
-use Rattle.examples.specs.Cases.{caseA}
-use Rattle.examples.specs.Table.{Question, answer, Row, slotsOnly, table}
+use Rattle.graph.specs.Rounds.{further, within, reachedIn}
+use Rattle.network.specs.Words.{slotCount, endpointCount, blockCount, inBlock, isHeld, heldWithout, joins, weightOf}
+use Rattle.network.specs.Tests.{marks, served, cut, weightWhere, servedWeight, weighed}
+use Rattle.weigh.specs.Weighing.{blockFault, weighFault, weightsOf, weighingOf, weighing}
+use Rattle.examples.specs.Cases.{caseA, caseB, caseC, caseD, caseE, caseF, caseG, caseH, caseI, caseJ, caseK, caseM}
+use Rattle.examples.specs.Table.{Question, answer, weighingNumbers, Row, slotsOnly, table}
 
 -- its line names all that the examples compute through
 passes : Row → Bool
-unfolding bitAt number fieldAt range on first sum equal item all headerWidths slotWidths endpointWidths linkWidths serviceWidths fieldIn slotsAt endpointsAt linksAt servicesAt endAt sizeOf headerIn slotAt endpointAt linkAt rows pictureWith headerOf pictureOf slotOf endpointOf sizesRight countsRight slotFault linkFault serviceFault endRight partFaults faultsWith pictureFault caseA answer slotsOnly
+unfolding bitAt number fieldAt range on first sum equal item all headerWidths slotWidths endpointWidths linkWidths serviceWidths fieldIn slotsAt endpointsAt linksAt servicesAt endAt sizeOf headerIn slotAt endpointAt linkAt rows pictureWith headerOf pictureOf slotOf endpointOf sizesRight countsRight slotFault linkFault serviceFault endRight partFaults faultsWith pictureFault any further within reachedIn slotCount endpointCount blockCount inBlock isHeld heldWithout joins weightOf marks served cut weightWhere servedWeight weighed blockFault weighFault weightsOf weighingOf weighing caseA caseB caseC caseD caseE caseF caseG caseH caseI caseJ caseK caseM answer weighingNumbers slotsOnly
 passes r = equal (answer (r .question)) (r .says)
 
 tested : T (all passes table)

@@ -4,8 +4,8 @@ ghost use Rattle.rows.specs.Rows.{marked, linkedIn, inWord};
 ghost use Rattle.graph.specs.Held.{heldIn, SlotsOnly};
 ghost use Rattle.graph.specs.Steps.{Walked};
 ghost use Rattle.graph.specs.Sweeps.{Locations, Whole, Ready, Entered, Swept};
-
-use rows::{LOCATIONS, WORDS};
+use rows::LOCATIONS;
+use rows::WORDS;
 
 pub struct Forest {
     pub parent: [u8; LOCATIONS],

@@ -5,9 +5,11 @@ ghost use Rattle.picture.specs.Picture.{pictureOf};
 ghost use Rattle.picture.specs.Answers.{Read};
 ghost use Rattle.network.specs.Words.{joins, isHeld};
 ghost use Rattle.network.specs.Rows.{RowsOf, isNearHeld, SlotRowsOf, BlockRow, EndpointsOf};
-
-use picture::{ENDPOINTS_MAX, HELD, Header};
-use rows::{LOCATIONS, WORDS};
+use picture::ENDPOINTS_MAX;
+use picture::HELD;
+use picture::Header;
+use rows::LOCATIONS;
+use rows::WORDS;
 
 // A place for each endpoint by its number, and for 0.
 pub const ENDPOINTS: usize = ENDPOINTS_MAX + 1;

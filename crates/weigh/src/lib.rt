@@ -10,10 +10,11 @@ ghost use Rattle.picture.specs.Answers.{Read};
 ghost use Rattle.network.specs.Words.{blockCount};
 ghost use Rattle.weigh.specs.Sums.{Small, LostRow, LostBetween};
 ghost use Rattle.weigh.specs.Weighing.{weightsOf, weighing};
-
 use network::ENDPOINTS;
-use picture::{Header, Reading};
-use rows::{LOCATIONS, WORDS};
+use picture::Header;
+use picture::Reading;
+use rows::LOCATIONS;
+use rows::WORDS;
 
 // What weighing gives.
 pub struct Weights {

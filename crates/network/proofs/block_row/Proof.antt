@@ -37,7 +37,7 @@ loop-again : tie.Need-loop-again Inv-loop μ-loop
 loop-again c = marking-next _ _ _ _ (c .before .before .loop .k) (omega arith) (c .before .before .loop .inv) (c .with .ensures)
 
 returns : tie.Need-returns Inv-loop μ-loop
-returns c = 
+returns c =
     let l = c .before .loop in
     let e : l .k ≡ c .before .before .args .size = omega (arith, l .inv .within) in
     record { marks = λ v. l .inv .same v ∙ ap (λ (k : ℕ). leb (c .before .before .args .b * c .before .before .args .size + 1) v && leb v (c .before .before .args .b * c .before .before .args .size + k)) e }

@@ -54,7 +54,7 @@ protected-next c =
     (c .if1 .came)
 
 loop-holds : tie.Need-loop-holds Inv-loop μ-loop
-loop-holds c = 
+loop-holds c =
     record { some = omega arith; within = omega arith; read = c .before .pre; weighed = weighing-begun _; protected = scanned-begun _ 4 }
 
 endpoint-weight-requires : tie.Need-endpoint-weight-requires Inv-loop μ-loop
@@ -82,7 +82,7 @@ loop-less : tie.Need-loop-less Inv-loop μ-loop
 loop-less c = search needs
 
 loop-again : tie.Need-loop-again Inv-loop μ-loop
-loop-again c = 
+loop-again c =
     let l = c .before .before .before .before .loop in
     record {
       some = omega arith;
@@ -93,7 +93,7 @@ loop-again c =
     }
 
 returns : tie.Need-returns Inv-loop μ-loop
-returns c = 
+returns c =
     let l = c .before .loop in
     endpoints-looked _ _ _ (l .c) (omega (arith, read-endpoints-length _ _ (l .inv .read))) (omega (arith, read-endpoints-length _ _ (l .inv .read))) (l .inv .weighed) (l .inv .protected)
 

@@ -19,7 +19,7 @@ slot-state-requires : tie.Need-slot-state-requires
 slot-state-requires c κs = (read-limited _ _ (c .before .pre .0), c .before .pre .1, c .before .pre .2)
 
 returns : tie.Need-returns
-returns c = 
+returns c =
     let a = c .before .before .args in
     let pre = c .before .before .pre in
     ap (λ (x : ℕ). eqb x 0) (c .slot-state .ensures ∙ ap (λ (p : Picture). slotOf p (a .v) .state) (read-picture _ _ (pre .0))) ∙ held-state (pictureOf (a .s .now)) (a .v) (pre .1)

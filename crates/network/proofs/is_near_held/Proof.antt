@@ -17,14 +17,14 @@ slot-near-requires c κs = (read-limited _ _ (c .before .before .before .pre .0)
 
 returns : tie.Need-returns
 unfolding isNearHeld
-returns c = 
+returns c =
     let a = c .before .before .before .before .args in
     c .slot-near .ensures ∙ ap (λ (p : Picture). slotOf p (a .v) .near) (read-picture _ _ (c .before .before .before .before .pre .0))
     ∙ sym (ap (λ (b : Bool). b && slotOf (pictureOf (a .s .now)) (a .v) .near) (sym (c .before .before .is-held .ensures) ∙ c .before .if1 .taken))
 
 returns-2 : tie.Need-returns-2
 unfolding isNearHeld
-returns-2 c = 
+returns-2 c =
     let a = c .before .before .before .args in
     sym (ap (λ (b : Bool). b && slotOf (pictureOf (a .s .now)) (a .v) .near) (sym (c .before .is-held .ensures) ∙ c .if1 .left))
 

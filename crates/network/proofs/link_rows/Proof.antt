@@ -45,7 +45,7 @@ nth-link-requires : tie.Need-nth-link-requires Inv-loop μ-loop
 nth-link-requires c κs = (read-limited _ _ (c .before .loop .inv .read), omega arith)
 
 mark-requires : tie.Need-mark-requires Inv-loop μ-loop
-mark-requires c κs = 
+mark-requires c κs =
     let a = c .before .before .before .before .before .args in
     let l = c .before .before .before .loop in
     let k = read-links _ _ (l .inv .read) in
@@ -63,7 +63,7 @@ loop-less : tie.Need-loop-less Inv-loop μ-loop
 loop-less c = search needs
 
 loop-again : tie.Need-loop-again Inv-loop μ-loop
-loop-again c = 
+loop-again c =
     let a = c .before .before .before .before .before .before .args in
     let l = c .before .before .before .before .loop in
     record {
@@ -76,7 +76,7 @@ loop-again c =
 
 returns : tie.Need-returns Inv-loop μ-loop
 unfolding joins
-returns c = 
+returns c =
     let l = c .before .loop in
     linking-ended test _ (l .table) (l .i) (l .inv .marked) (omega (arith, read-links-length _ _ (l .inv .read)))
 

@@ -43,7 +43,7 @@ small c = read-limited _ _ (c .loop .inv .read) .slots
 held-next : (c : tie.Joined1 Inv-loop μ-loop) → Scanned (isHeld (pictureOf (c .before .before .before .before .before .args .s .now))) (c .if1 .held) (c .before .before .before .loop .v + 1)
 held-next c =
     let l = c .before .before .before .loop in
-    ⊎-elim 
+    ⊎-elim
     (λ w. rw (w .2) (scanned-hit _ _ _ (l .v) (l .inv .some) (l .inv .held) (sym (c .before .is-held .ensures) ∙ w .0 .taken) (w .1 .ensures)))
     (λ w. rw (w .1) (scanned-miss _ _ (l .v) (l .inv .some) (l .inv .held) (sym (c .before .is-held .ensures) ∙ w .0 .left)))
     (c .if1 .came)
@@ -51,7 +51,7 @@ held-next c =
 near-next : (c : tie.Joined2 Inv-loop μ-loop) → Scanned (isNearHeld (pictureOf (c .before .before .before .before .before .before .before .args .s .now))) (c .if2 .near) (c .before .before .before .before .before .loop .v + 1)
 near-next c =
     let l = c .before .before .before .before .before .loop in
-    ⊎-elim 
+    ⊎-elim
     (λ w. rw (w .2) (scanned-hit _ _ _ (l .v) (l .inv .some) (l .inv .near) (sym (c .before .is-near-held .ensures) ∙ w .0 .taken) (w .1 .ensures)))
     (λ w. rw (w .1) (scanned-miss _ _ (l .v) (l .inv .some) (l .inv .near) (sym (c .before .is-near-held .ensures) ∙ w .0 .left)))
     (c .if2 .came)
@@ -66,7 +66,7 @@ with-requires : tie.Need-with-requires Inv-loop μ-loop
 with-requires c κs = omega (arith, small (c .before .before .before))
 
 is-near-held-requires : tie.Need-is-near-held-requires Inv-loop μ-loop
-is-near-held-requires c κs = 
+is-near-held-requires c κs =
     let l = c .before .before .before .loop in
     (l .inv .read, l .inv .some, omega arith)
 
@@ -80,7 +80,7 @@ loop-less : tie.Need-loop-less Inv-loop μ-loop
 loop-less c = omega (arith, small (c .before .before .before .before .before))
 
 loop-again : tie.Need-loop-again Inv-loop μ-loop
-loop-again c = 
+loop-again c =
     let l = c .before .before .before .before .before .loop in
     record { some = omega arith; within = omega arith; read = l .inv .read; held = held-next (c .before .before); near = near-next c }
 

@@ -47,7 +47,7 @@ loop-again : tie.Need-loop-again Inv-loop μ-loop
 loop-again c = made-next bitXor 4 _ _ _ (c .before .loop .i) (c .before .loop .inv) (omega arith)
 
 returns : tie.Need-returns Inv-loop μ-loop
-returns c = 
+returns c =
     let l = c .before .loop in
     let e : l .i ≡ 4 = omega arith in
     record { marks = made-marks bitXor xor digit-xor refl 4 _ _ _ (rw e at (l .inv)) }

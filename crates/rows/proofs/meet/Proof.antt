@@ -17,7 +17,7 @@ abbrev μ-loop : tie.MeasureT-loop
 μ-loop row other common₀ i₀ common i = 4 - i
 
 loop-holds : tie.Need-loop-holds Inv-loop μ-loop
-loop-holds c = 
+loop-holds c =
     record { within = search needs; ones = search needs; others = search needs; none = search needs; some = λ n. absurd (n refl) }
 
 mul-common : tie.Need-mul-common Inv-loop μ-loop
@@ -39,7 +39,7 @@ loop-less : tie.Need-loop-less Inv-loop μ-loop
 loop-less c = search needs
 
 loop-again : tie.Need-loop-again Inv-loop μ-loop
-loop-again c = 
+loop-again c =
     let l = c .before .loop in
     let fits : Fits w64 (getD (c .before .before .args .t1) (l .i) 0) = search needs in
     looked-next _ _ _ (l .i) (l .inv) (omega arith) (fits .fits)

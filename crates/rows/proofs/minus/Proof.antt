@@ -53,7 +53,7 @@ loop-again c = made-next lessWord 4 _ _ _ (c .before .loop .i) (c .before .loop 
 
 returns : tie.Need-returns Inv-loop μ-loop
 unfolding lessWord
-returns c = 
+returns c =
     let l = c .before .loop in
     let e : l .i ≡ 4 = omega arith in
     record { marks = made-marks lessWord (λ x y. x && not y) digit-less refl 4 _ _ _ (rw e at (l .inv)) }

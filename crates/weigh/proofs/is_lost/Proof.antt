@@ -13,7 +13,7 @@ meet-requires-2 : tie.Need-meet-requires-2
 meet-requires-2 c κs = search needs
 
 returns : tie.Need-returns
-returns c = 
+returns c =
     record {
       same =
           λ f g a b.
@@ -21,7 +21,7 @@ returns c =
     }
 
 returns-2 : tie.Need-returns-2
-returns-2 c = 
+returns-2 c =
     record { same = λ f g a b. ap (λ (x : Bool). x && not g) (sym (c .if1 .left) ∙ meet-one _ _ _ _ (c .before .meet .ensures) a) }
 
 pub is-lost-spec : {M : Type 1} → statement M

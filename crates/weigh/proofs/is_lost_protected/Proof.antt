@@ -18,12 +18,12 @@ has-requires : tie.Need-has-requires
 has-requires c κs = search needs
 
 returns : tie.Need-returns
-returns c = 
+returns c =
     let a = c .before .before .args in
     c .has .ensures ∙ sym (ap (λ (b : Bool). marked (a .protected) (a .c) && b) (c .before .if1 .taken) ∙ and-true (marked (a .protected) (a .c)))
 
 returns-2 : tie.Need-returns-2
-returns-2 c = 
+returns-2 c =
     let a = c .before .args in
     sym (ap (λ (b : Bool). marked (a .protected) (a .c) && b) (c .if1 .left) ∙ and-false (marked (a .protected) (a .c)))
 

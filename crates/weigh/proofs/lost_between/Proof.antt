@@ -35,7 +35,7 @@ unfolding on
 weight-next c =
     let l = c .before .before .before .before .loop in
     let w = getD (c .before .before .before .before .before .args .weights .now) (l .c) 0 in
-    ⊎-elim 
+    ⊎-elim
     (λ x. x .2 ∙ ap (λ (b : Bool). l .weight + on b w) (sym (x .0 .taken)))
     (λ x. x .1 ∙ sym (ap (λ (b : Bool). l .weight + on b w) (x .0 .left) ∙ add-zero (l .weight)))
     (c .if1 .came)
@@ -48,13 +48,13 @@ mark-next : (c : tie.Joined2 Inv-loop μ-loop)
 unfolding on
 mark-next c =
     let l = c .before .before .before .before .before .before .loop in
-    ⊎-elim 
+    ⊎-elim
     (λ x. ap (λ (b : Bool). on b 1 + on (not b) (l .mark)) (sym (c .before .is-lost-protected .ensures) ∙ x .0 .taken) ∙ sym (x .1))
     (λ x. ap (λ (b : Bool). on b 1 + on (not b) (l .mark)) (sym (c .before .is-lost-protected .ensures) ∙ x .0 .left) ∙ zero-add (l .mark) ∙ sym (x .1))
     (c .if2 .came)
 
 loop-holds : tie.Need-loop-holds Inv-loop μ-loop
-loop-holds c = 
+loop-holds c =
     record { within = omega arith; few = c .pre .2; many = c .pre .1; small = c .pre .0; picking = picking-begun _ _ _ _ _ }
 
 mul-row : tie.Need-mul-row Inv-loop μ-loop
@@ -73,7 +73,7 @@ element-copy-out-weight : tie.Need-element-copy-out-weight Inv-loop μ-loop
 element-copy-out-weight c = search needs
 
 add-weight : tie.Need-add-weight Inv-loop μ-loop
-add-weight c = 
+add-weight c =
     let l = c .before .before .before .before .before .loop in
     omega (arith, l .inv .picking .small, l .inv .small .weight (l .c))
 
@@ -87,7 +87,7 @@ loop-less : tie.Need-loop-less Inv-loop μ-loop
 loop-less c = search needs
 
 loop-again : tie.Need-loop-again Inv-loop μ-loop
-loop-again c = 
+loop-again c =
     let l = c .before .before .before .before .before .before .loop in
     record {
       within = omega arith;

@@ -35,22 +35,22 @@ div-if1 : tie.Need-div-if1
 div-if1 c = omega (arith, read-sizes _ _ (accepted (c .before .before)) .size-some)
 
 returns : tie.Need-returns
-returns c = 
+returns c =
     let r = accepted (c .before .before .before) in
     weigh-no-block _ _ (r .accepted) (rw (← read-blocks _ _ r) (c .if1 .taken))
 
 weigh-block-requires : tie.Need-weigh-block-requires
-weigh-block-requires c κs = 
+weigh-block-requires c κs =
     let r = accepted (c .before .before .before) in
     (r, rw (← read-blocks _ _ r) (c .if1 .left))
 
 returns-2 : tie.Need-returns-2
-returns-2 c = 
+returns-2 c =
     let r = refused-fault _ _ (sym (c .before .number .given .1) ∙ c .before .before .before .read .ensures) in
     weigh-faulty _ _ _ (r .1) (r .0)
 
 returns-3 : tie.Need-returns-3
-returns-3 c = 
+returns-3 c =
     let r = accepted (c .before .before .before .before) in
     ap Weighed (c .weigh-block .ensures) ∙ weigh-told _ _ (r .accepted) (rw (← read-blocks _ _ r) (c .before .if1 .left))
 

@@ -1,7 +1,7 @@
 -- `weigh_block` weighs a block of an accepted picture. Assumes nothing.
 use mathlib.Core.Path.{_≡_, refl, sym, ap, ap₂, _∙_}
 use native.Mathlib.Omega.{arith}
-use mathlib.Core.Bool.{Bool, }
+use mathlib.Core.Bool.{Bool}
 use mathlib.Core.List.{List}
 use Prim.Native.Nat.{ℕ, _≤_}
 use lib.Dec.{T, T-not}
@@ -71,15 +71,15 @@ walk-requires-2 : tie.Need-walk-requires-2
 walk-requires-2 c κs = left-slots _ _ _ _ _ _ (c .before .before .before .before .before .slot-rows .ensures) (block c) (c .before .minus .ensures)
 
 lost-between-requires : tie.Need-lost-between-requires
-lost-between-requires c κs = ready (c .before .before .before .before .before .before )
+lost-between-requires c κs = ready (c .before .before .before .before .before .before)
 
 lost-between-requires-2 : tie.Need-lost-between-requires-2
-lost-between-requires-2 c κs = ready (c .before .before .before .before .before .before .before .before .before )
+lost-between-requires-2 c κs = ready (c .before .before .before .before .before .before .before .before .before)
 
 returns : tie.Need-returns
 unfolding weightsOf
-returns c = 
-    let k = c .before .before .before .before .before .before .before .before .before .before  in
+returns c =
+    let k = c .before .before .before .before .before .before .before .before .before .before in
     let a = c .before .before .before .before .before .before .before .before .before .before .before .before .before .before .before .before .before .before .before .before .args in
     let p = pictureOf (a .s .now) in
     let s = c .before .before .before .before .before .before .before .before .before .before .before .before .before .before .before .before .before .service-rows .ensures in
