@@ -1,13 +1,16 @@
 -- One table of worked examples: each row is a question about some bytes and the numbers that document 01 says. Assumes nothing.
 use mathlib.Core.List.{List, [], _∷_, _++_}
 use Prim.Native.Nat.{ℕ}
-use lib.ListN.{set, replicate}
+use lib.ListN.{set, take, drop, replicate}
 use Rattle.picture.specs.Faults.{pictureFault}
 use Rattle.weigh.specs.declared.Weights.{Weights}
 use Rattle.weigh.specs.declared.Weighing.{Weighing}
 use Rattle.weigh.specs.declared.Weighing.the-variants.{Weighed, Refused}
 use Rattle.weigh.specs.Weighing.{weighing}
-use Rattle.examples.specs.Cases.{caseA, caseB, caseC, caseD, caseE, caseF, caseG, caseH, caseI, caseJ, caseK, caseM}
+use Rattle.evidence.specs.Canonical.{evidenceOf}
+use Rattle.evidence.specs.Checks.{checkFault}
+use Rattle.evidence.specs.Calls.{lengthFor, chooseFault, shown}
+use Rattle.examples.specs.Cases.{evidenceA, caseA, caseB, caseC, caseD, caseE, caseF, caseG, caseH, caseI, caseJ, caseK, caseM}
 
 -- what is asked
 pub data Question : Type 0 where
@@ -15,6 +18,14 @@ pub data Question : Type 0 where
   fault : List ℕ → Question
   -- what weighing a block answers
   weigh : List ℕ → ℕ → Question
+  -- the number of the first fault that choose finds with a buffer of so many bytes, and the evidence's length
+  choose : List ℕ → ℕ → Question
+  -- the evidence's first k bytes
+  evidence : List ℕ → ℕ → Question
+  -- the number of the first fault that a check finds in evidence
+  check : List ℕ → List ℕ → Question
+  -- the part of the evidence that show hands back
+  show : List ℕ → List ℕ → Question
 
 -- a refusal is its number alone; an answer is 0 and what is told
 unfoldable pub weighingNumbers : Weighing → List ℕ
@@ -24,6 +35,10 @@ weighingNumbers (Refused k) = k ∷ []
 unfoldable pub answer : Question → List ℕ
 answer (fault bs) = pictureFault bs ∷ []
 answer (weigh bs b) = weighingNumbers (weighing bs b)
+answer (choose bs k) = chooseFault bs (replicate k 0) ∷ lengthFor bs ∷ []
+answer (evidence bs k) = take k (evidenceOf bs)
+answer (check bs ev) = checkFault bs ev ∷ []
+answer (show bs ev) = shown bs ev
 
 pub record Row : Type 0 where
   pub question : Question
@@ -82,4 +97,55 @@ table =
     ∷ record { question = weigh caseA 2; says = 8 ∷ [] }
     ∷ record { question = weigh caseA 0xFFFFFFFF; says = 8 ∷ [] }
     ∷ record { question = weigh [] 0; says = 1 ∷ [] }
+    -- choose: the length of the evidence, its head (verdict, block, candidates, served weight, loss), and that it passes
+    ∷ record { question = choose caseA 43; says = 0 ∷ 43 ∷ [] }
+    ∷ record { question = evidence caseA 9; says = 0x11 ∷ 1 ∷ 2 ∷ 0 ∷ 0 ∷ 42 ∷ 0 ∷ 0 ∷ 12 ∷ [] }
+    ∷ record { question = check caseA (evidenceOf caseA); says = 0 ∷ [] }
+    ∷ record { question = choose caseB 43; says = 0 ∷ 43 ∷ [] }
+    ∷ record { question = evidence caseB 9; says = 0x11 ∷ 1 ∷ 2 ∷ 0 ∷ 0 ∷ 42 ∷ 0 ∷ 0 ∷ 12 ∷ [] }
+    ∷ record { question = check caseB (evidenceOf caseB); says = 0 ∷ [] }
+    ∷ record { question = choose caseC 43; says = 0 ∷ 43 ∷ [] }
+    ∷ record { question = evidence caseC 9; says = 0x10 ∷ 0 ∷ 2 ∷ 0 ∷ 0 ∷ 42 ∷ 0 ∷ 0 ∷ 0 ∷ [] }
+    ∷ record { question = check caseC (evidenceOf caseC); says = 0 ∷ [] }
+    ∷ record { question = choose caseD 43; says = 0 ∷ 43 ∷ [] }
+    ∷ record { question = evidence caseD 9; says = 0x11 ∷ 0 ∷ 2 ∷ 0 ∷ 0 ∷ 60 ∷ 0 ∷ 0 ∷ 30 ∷ [] }
+    ∷ record { question = check caseD (evidenceOf caseD); says = 0 ∷ [] }
+    ∷ record { question = choose caseE 17; says = 0 ∷ 17 ∷ [] }
+    ∷ record { question = evidence caseE 9; says = 0x10 ∷ 0 ∷ 0 ∷ 0 ∷ 0 ∷ 42 ∷ 0 ∷ 0 ∷ 0 ∷ [] }
+    ∷ record { question = check caseE (evidenceOf caseE); says = 0 ∷ [] }
+    ∷ record { question = choose caseF 43; says = 0 ∷ 43 ∷ [] }
+    ∷ record { question = evidence caseF 9; says = 0x11 ∷ 1 ∷ 2 ∷ 0 ∷ 0 ∷ 30 ∷ 0 ∷ 0 ∷ 0 ∷ [] }
+    ∷ record { question = check caseF (evidenceOf caseF); says = 0 ∷ [] }
+    ∷ record { question = choose caseG 17; says = 0 ∷ 17 ∷ [] }
+    ∷ record { question = evidence caseG 9; says = 0x10 ∷ 0 ∷ 0 ∷ 0 ∷ 0 ∷ 0 ∷ 0 ∷ 0 ∷ 0 ∷ [] }
+    ∷ record { question = check caseG (evidenceOf caseG); says = 0 ∷ [] }
+    ∷ record { question = choose caseH 43; says = 0 ∷ 43 ∷ [] }
+    ∷ record { question = evidence caseH 9; says = 0x11 ∷ 1 ∷ 2 ∷ 0 ∷ 0 ∷ 42 ∷ 0 ∷ 0 ∷ 12 ∷ [] }
+    ∷ record { question = check caseH (evidenceOf caseH); says = 0 ∷ [] }
+    ∷ record { question = choose caseI 43; says = 0 ∷ 43 ∷ [] }
+    ∷ record { question = evidence caseI 9; says = 0x11 ∷ 1 ∷ 2 ∷ 0 ∷ 0 ∷ 42 ∷ 0 ∷ 0 ∷ 12 ∷ [] }
+    ∷ record { question = check caseI (evidenceOf caseI); says = 0 ∷ [] }
+    ∷ record { question = choose caseJ 43; says = 0 ∷ 43 ∷ [] }
+    ∷ record { question = evidence caseJ 9; says = 0x11 ∷ 1 ∷ 2 ∷ 0 ∷ 0 ∷ 12 ∷ 0 ∷ 0 ∷ 12 ∷ [] }
+    ∷ record { question = check caseJ (evidenceOf caseJ); says = 0 ∷ [] }
+    ∷ record { question = choose caseK 30; says = 0 ∷ 30 ∷ [] }
+    ∷ record { question = evidence caseK 9; says = 0x10 ∷ 0 ∷ 1 ∷ 0 ∷ 0 ∷ 30 ∷ 0 ∷ 0 ∷ 0 ∷ [] }
+    ∷ record { question = check caseK (evidenceOf caseK); says = 0 ∷ [] }
+    ∷ record { question = choose caseM 43; says = 0 ∷ 43 ∷ [] }
+    ∷ record { question = evidence caseM 9; says = 0x11 ∷ 0 ∷ 2 ∷ 0 ∷ 0 ∷ 0 ∷ 0 ∷ 0 ∷ 0 ∷ [] }
+    ∷ record { question = check caseM (evidenceOf caseM); says = 0 ∷ [] }
+    -- A's evidence in full, and the refusals of choose and check, each from A's evidence with one byte changed
+    ∷ record { question = evidence caseA 43; says = evidenceA }
+    ∷ record { question = choose caseA 42; says = 9 ∷ 43 ∷ [] }
+    ∷ record { question = choose [] 0; says = 1 ∷ 9 ∷ [] }
+    ∷ record { question = check caseA []; says = 13 ∷ [] }
+    ∷ record { question = check caseA (evidenceA ++ (0 ∷ [])); says = 13 ∷ [] }
+    ∷ record { question = check caseA (set evidenceA 0 0x12); says = 13 ∷ [] }
+    ∷ record { question = check caseA (set evidenceA 16 2); says = 14 ∷ [] }
+    ∷ record { question = check caseA (set evidenceA 20 29); says = 15 ∷ [] }
+    ∷ record { question = check caseA (set evidenceA 0 0x10); says = 16 ∷ [] }
+    ∷ record { question = show caseA evidenceA; says = drop 30 evidenceA }
+    ∷ record { question = show caseC (evidenceOf caseC); says = [] }
+    -- D has two least candidates: evidence that names the higher one passes too
+    ∷ record { question = check caseD (set (evidenceOf caseD) 1 1); says = 0 ∷ [] }
     ∷ []

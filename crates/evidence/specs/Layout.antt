@@ -1,0 +1,32 @@
+-- The layout of evidence: the widths of its fields in their order, and where each section starts. Assumes nothing.
+use mathlib.Core.List.{List, [], _∷_}
+use Prim.Native.Nat.{ℕ, _+_, _*_, _/_}
+use Rattle.lists.specs.Lists.{sum}
+use Rattle.picture.specs.Layout.{Edition}
+
+-- head: edition, verdict, block, candidate count C, served weight, loss
+unfoldable pub headWidths : List ℕ
+headWidths = 4 ∷ 4 ∷ 8 ∷ 8 ∷ 24 ∷ 24 ∷ []
+
+-- a node of a forest: parent, depth
+unfoldable pub nodeWidths : Edition → List ℕ
+nodeWidths e = e .locationBits ∷ e .locationBits ∷ []
+
+-- what a candidate's section has before its forest: block, loss, mark
+unfoldable pub sectionWidths : List ℕ
+sectionWidths = 8 ∷ 24 ∷ 8 ∷ []
+
+-- the forest of n slots
+unfoldable pub forestBits : Edition → ℕ → ℕ
+forestBits e n = n * sum (nodeWidths e)
+
+unfoldable pub sectionBits : Edition → ℕ → ℕ
+sectionBits e n = sum sectionWidths + forestBits e n
+
+-- where section i starts, after the head, the first forest and the sections before it
+unfoldable pub sectionAt : Edition → ℕ → ℕ → ℕ
+sectionAt e n i = sum headWidths + forestBits e n + i * sectionBits e n
+
+-- the length in bytes for c candidates: 9 + 2n + C(5 + 2n) in edition 1
+unfoldable pub evidenceBytes : Edition → ℕ → ℕ → ℕ
+evidenceBytes e n c = sectionAt e n c / 8

@@ -1,0 +1,50 @@
+-- The rules of evidence as propositions, in the order of document 01. Assumes nothing.
+use mathlib.Core.List.{List}
+use mathlib.Core.Path.{_≡_}
+use Prim.Native.Nat.{ℕ, _≤_, _<_}
+use lib.ListN.{length, getD}
+use Rattle.graph.specs.Kept.{ForestKept}
+use Rattle.picture.specs.Layout.{Edition, editionOf}
+use Rattle.picture.specs.Picture.{Picture, pictureOf}
+use Rattle.picture.specs.Faults.{pictureFault}
+use Rattle.network.specs.Words.{slotCount, isHeld, heldWithout, joins, ServedWeight, Loss, CutsProtected, Candidate, Admissible}
+use Rattle.network.specs.Tests.{candidates}
+use Rattle.evidence.specs.Layout.{evidenceBytes}
+use Rattle.evidence.specs.Checks.{headIn, sectionIn, firstForest, sectionForest}
+
+-- 13: "evidence length or edition wrong, C not the candidate count, a section's block not the next candidate, verdict or mark over 1"
+pub record Form (e : Edition) (p : Picture) (ev : List ℕ) : Type 0 where
+  pub size : length ev ≡ evidenceBytes e (slotCount p) (length (candidates p))
+  pub edition : headIn ev 0 ≡ e .number
+  pub verdict : headIn ev 1 ≤ 1
+  pub count : headIn ev 3 ≡ length (candidates p)
+  pub blocks : (i : ℕ) → i < length (candidates p) → sectionIn e (slotCount p) ev i 0 ≡ getD (candidates p) i 0
+  pub marks : (i : ℕ) → i < length (candidates p) → sectionIn e (slotCount p) ev i 2 ≤ 1
+
+-- 14 and 15 of the section of block b: its forest keeps the rules with that block evicted, and its loss and mark are those by chains
+pub record Section (e : Edition) (p : Picture) (ev : List ℕ) (i b : ℕ) : Type 0 where
+  pub forest : ForestKept (joins (p .links)) (heldWithout p b) (slotCount p) (sectionForest e (slotCount p) ev i)
+  pub loss : Loss p b (sectionIn e (slotCount p) ev i 1)
+  pub marked : sectionIn e (slotCount p) ev i 2 ≡ 1 → CutsProtected p b
+  pub unmarked : CutsProtected p b → sectionIn e (slotCount p) ev i 2 ≡ 1
+
+-- 16 where a block is named: a candidate that cuts no protected endpoint, with its loss, and none such loses less
+pub record Named (p : Picture) (block loss : ℕ) : Type 0 where
+  pub candidate : Candidate p block
+  pub admissible : Admissible p block
+  pub stated : Loss p block loss
+  pub least : (b : ℕ) → Candidate p b → Admissible p b → (w : ℕ) → Loss p b w → loss ≤ w
+
+-- 16: verdict 1 with such a block, or verdict 0 with block and loss 0 where every candidate cuts a protected endpoint
+pub data Verdict (p : Picture) : ℕ → ℕ → ℕ → Type 0 where
+  chosen : {block loss : ℕ} → Named p block loss → Verdict p 1 block loss
+  none : ((b : ℕ) → Candidate p b → CutsProtected p b) → Verdict p 0 0 0
+
+-- evidence that passes for a picture
+pub record Passes (bs ev : List ℕ) : Type 0 where
+  pub accepted : pictureFault bs ≡ 0
+  pub form : Form (editionOf bs) (pictureOf bs) ev
+  pub forest : ForestKept (joins (pictureOf bs .links)) (isHeld (pictureOf bs)) (slotCount (pictureOf bs)) (firstForest (editionOf bs) (slotCount (pictureOf bs)) ev)
+  pub served : ServedWeight (pictureOf bs) (isHeld (pictureOf bs)) (headIn ev 4)
+  pub sections : (i : ℕ) → i < length (candidates (pictureOf bs)) → Section (editionOf bs) (pictureOf bs) ev i (getD (candidates (pictureOf bs)) i 0)
+  pub verdict : Verdict (pictureOf bs) (headIn ev 1) (headIn ev 2) (headIn ev 5)

@@ -1,0 +1,1 @@
+// Fields packed into bytes: definitions and laws. There is no code here.
