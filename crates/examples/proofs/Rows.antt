@@ -4,7 +4,7 @@ use mathlib.Core.Bool.{Bool}
 use Prim.Native.Nat.{ℕ, _<_}
 use lib.Dec.{T}
 use lib.ListN.{length, getD}
-use Rattle.bits.specs.Bits.{bitAt, number, fieldAt}
+use Rattle.bits.specs.Bits.{bitAt, number, fieldAt, setBit, putField}
 use Rattle.lists.specs.Lists.{range, on, first, sum, lowest, equal, item, all, any, filter, place, flat}
 use Rattle.lists.proofs.Tests.{all-at, equal-same}
 use Rattle.picture.specs.Layout.{headerWidths, slotWidths, endpointWidths, linkWidths, serviceWidths, fieldIn, slotsAt, endpointsAt, linksAt, servicesAt, endAt, sizeOf}
@@ -20,12 +20,14 @@ use Rattle.evidence.specs.Layout.{headWidths, nodeWidths, sectionWidths, forest
 use Rattle.evidence.specs.Canonical.{weighings, least, choice, fieldsOf, headFields, nodeFields, forestFields, forestOf, sectionFields, evidenceFields, evidenceOf}
 use Rattle.evidence.specs.Checks.{headIn, sectionIn, nodeIn as nodeAt, forestIn, firstForest, sectionForest, isIn, nodeRight, linkRight, forestRight, formRight, sectionFault, verdictRight, checkFault}
 use Rattle.evidence.specs.Calls.{lengthFor, chooseFault, shownPart, shown}
+use Rattle.network.specs.Rows.{isNearHeld}
+use Rattle.acts.specs.Acts.{after, blockSlots, changes, cutFault, recoverableNear, nearAfter, nearFault, actFault, putStates, doneBytes, actBytes}
 use Rattle.examples.specs.Cases.{evidenceA, caseA, caseB, caseC, caseD, caseE, caseF, caseG, caseH, caseI, caseJ, caseK, caseM}
 use Rattle.examples.specs.Table.{Question, answer, weighingNumbers, Row, slotsOnly, table}
 
 -- its line names all that the examples compute through
 passes : Row → Bool
-unfolding bitAt number fieldAt range on first sum equal item all headerWidths slotWidths endpointWidths linkWidths serviceWidths fieldIn slotsAt endpointsAt linksAt servicesAt endAt sizeOf headerIn slotAt endpointAt linkAt rows pictureWith headerOf pictureOf slotOf endpointOf sizesRight countsRight slotFault linkFault serviceFault endRight partFaults faultsWith pictureFault any further within reachedIn slotCount endpointCount blockCount inBlock isHeld heldWithout joins weightOf marks served cut weightWhere servedWeight weighed blockFault weighFault weightsOf weighingOf weighing lowest filter place flat levels depthIn reachedBy nodeIn forest isCandidate candidates digits bits bytesOf packed nodeOf headWidths nodeWidths sectionWidths forestBits sectionBits sectionAt evidenceBytes weighings least choice fieldsOf headFields nodeFields forestFields forestOf sectionFields evidenceFields evidenceOf headIn sectionIn nodeAt forestIn firstForest sectionForest isIn nodeRight linkRight forestRight formRight sectionFault verdictRight checkFault lengthFor chooseFault shownPart shown evidenceA caseA caseB caseC caseD caseE caseF caseG caseH caseI caseJ caseK caseM answer weighingNumbers slotsOnly
+unfolding bitAt number fieldAt range on first sum equal item all headerWidths slotWidths endpointWidths linkWidths serviceWidths fieldIn slotsAt endpointsAt linksAt servicesAt endAt sizeOf headerIn slotAt endpointAt linkAt rows pictureWith headerOf pictureOf slotOf endpointOf sizesRight countsRight slotFault linkFault serviceFault endRight partFaults faultsWith pictureFault any further within reachedIn slotCount endpointCount blockCount inBlock isHeld heldWithout joins weightOf marks served cut weightWhere servedWeight weighed blockFault weighFault weightsOf weighingOf weighing lowest filter place flat levels depthIn reachedBy nodeIn forest isCandidate candidates digits bits bytesOf packed nodeOf headWidths nodeWidths sectionWidths forestBits sectionBits sectionAt evidenceBytes weighings least choice fieldsOf headFields nodeFields forestFields forestOf sectionFields evidenceFields evidenceOf headIn sectionIn nodeAt forestIn firstForest sectionForest isIn nodeRight linkRight forestRight formRight sectionFault verdictRight checkFault lengthFor chooseFault shownPart shown setBit putField isNearHeld after blockSlots changes cutFault recoverableNear nearAfter nearFault actFault putStates doneBytes actBytes evidenceA caseA caseB caseC caseD caseE caseF caseG caseH caseI caseJ caseK caseM answer weighingNumbers slotsOnly
 passes r = equal (answer (r .question)) (r .says)
 
 tested : T (all passes table)

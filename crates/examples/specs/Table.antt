@@ -10,6 +10,9 @@ use Rattle.weigh.specs.Weighing.{weighing}
 use Rattle.evidence.specs.Canonical.{evidenceOf}
 use Rattle.evidence.specs.Checks.{checkFault}
 use Rattle.evidence.specs.Calls.{lengthFor, chooseFault, shown}
+use Rattle.acts.specs.declared.Act.{Act}
+use Rattle.acts.specs.declared.Act.the-variants.{Evict, Reload, Free}
+use Rattle.acts.specs.Acts.{actFault, actBytes}
 use Rattle.examples.specs.Cases.{evidenceA, caseA, caseB, caseC, caseD, caseE, caseF, caseG, caseH, caseI, caseJ, caseK, caseM}
 
 -- what is asked
@@ -26,6 +29,8 @@ pub data Question : Type 0 where
   check : List ℕ → List ℕ → Question
   -- the part of the evidence that show hands back
   show : List ℕ → List ℕ → Question
+  -- the number of an act's first fault, and the picture's bytes 7 and 8, in which A has its four slots, at exit
+  act : Act → List ℕ → ℕ → Question
 
 -- a refusal is its number alone; an answer is 0 and what is told
 unfoldable pub weighingNumbers : Weighing → List ℕ
@@ -39,6 +44,7 @@ answer (choose bs k) = chooseFault bs (replicate k 0) ∷ lengthFor bs ∷ []
 answer (evidence bs k) = take k (evidenceOf bs)
 answer (check bs ev) = checkFault bs ev ∷ []
 answer (show bs ev) = shown bs ev
+answer (act a bs b) = actFault a bs b ∷ take 2 (drop 7 (actBytes a bs b))
 
 pub record Row : Type 0 where
   pub question : Question
@@ -148,4 +154,17 @@ table =
     ∷ record { question = show caseC (evidenceOf caseC); says = [] }
     -- D has two least candidates: evidence that names the higher one passes too
     ∷ record { question = check caseD (set (evidenceOf caseD) 1 1); says = 0 ∷ [] }
+    -- acts: K is A after evicting block 1; the refusals leave the bytes as they were
+    ∷ record { question = act Evict caseA 1; says = 0 ∷ 0x25 ∷ 0xB0 ∷ [] }
+    ∷ record { question = act Evict caseA 0; says = 10 ∷ 0x24 ∷ 0x90 ∷ [] }
+    ∷ record { question = act Free caseA 0; says = 10 ∷ 0x24 ∷ 0x90 ∷ [] }
+    ∷ record { question = act Free caseA 1; says = 0 ∷ 0x26 ∷ 0xD0 ∷ [] }
+    ∷ record { question = act Free (actBytes Free caseA 1) 1; says = 11 ∷ 0x26 ∷ 0xD0 ∷ [] }
+    ∷ record { question = act Free caseK 1; says = 0 ∷ 0x26 ∷ 0xD0 ∷ [] }
+    ∷ record { question = act Reload caseA 0; says = 11 ∷ 0x24 ∷ 0x90 ∷ [] }
+    ∷ record { question = act Reload caseK 1; says = 12 ∷ 0x25 ∷ 0xB0 ∷ [] }
+    ∷ record { question = act Reload (set caseK 2 4) 1; says = 0 ∷ 0x24 ∷ 0x90 ∷ [] }
+    ∷ record { question = act Evict caseK 1; says = 11 ∷ 0x25 ∷ 0xB0 ∷ [] }
+    ∷ record { question = act Evict caseA 2; says = 8 ∷ 0x24 ∷ 0x90 ∷ [] }
+    ∷ record { question = act Evict (set caseA 0 0x22) 0; says = 2 ∷ 0x24 ∷ 0x90 ∷ [] }
     ∷ []

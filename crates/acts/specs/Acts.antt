@@ -1,0 +1,98 @@
+-- The acts: evict, reload and free. Document 01, "Checking and evicting". Assumes nothing.
+use mathlib.Core.Bool.{Bool, not, _&&_, _||_, cond}
+use mathlib.Core.List.{List, [], _∷_, map}
+use Prim.Native.Nat.{ℕ, zero, suc, _+_, _*_}
+use lib.Dec.{eqb, ltb}
+use lib.ListN.{length}
+use Rattle.bits.specs.Bits.{putField}
+use Rattle.lists.specs.Lists.{range, on, first, sum, any, filter}
+use Rattle.picture.specs.Layout.{Edition, editionOf, slotWidths, slotsAt}
+use Rattle.picture.specs.Picture.{Picture, Slot, pictureOf, slotOf}
+use Rattle.picture.specs.Faults.{pictureFault}
+use Rattle.network.specs.Words.{slotCount, inBlock, isHeld}
+use Rattle.network.specs.Tests.{weighed}
+use Rattle.network.specs.Rows.{isNearHeld}
+use Rattle.weigh.specs.Weighing.{blockFault}
+use Rattle.acts.specs.declared.Act.{Act}
+use Rattle.acts.specs.declared.Act.the-variants.{Evict, Reload, Free}
+use Rattle.acts.specs.declared.Acting.{Acting}
+use Rattle.acts.specs.declared.Acting.the-variants.{Done, Refused}
+
+-- a slot's state after an act on its block: "Evict turns b's held slots into recoverable ones", "Reload turns b's recoverable slots into
+-- held ones. Free turns held and recoverable ones into freed ones; freed stays freed"
+unfoldable pub after : Act → ℕ → ℕ
+after Evict s = cond (eqb s 0) 1 s
+after Reload s = cond (eqb s 1) 0 s
+after Free s = 2
+
+-- the slots of block b
+unfoldable pub blockSlots : Picture → ℕ → List ℕ
+blockSlots p b = range (b * p .blockSize + 1) (p .blockSize)
+
+-- 11: the act changes no slot
+unfoldable pub changes : Act → Picture → ℕ → Bool
+changes a p b = any (λ v. not (eqb (after a (slotOf p v .state)) (slotOf p v .state))) (blockSlots p b)
+
+-- 10: evict or free cuts a protected endpoint. Free counts as a cut exactly where evict would
+unfoldable pub cutFault : Act → Picture → ℕ → ℕ
+cutFault Evict p b = on (eqb (weighed p b .mark) 1) 10
+cutFault Reload p b = 0
+cutFault Free p b = on (eqb (weighed p b .mark) 1) 10
+
+-- 12: reload adds a held near slot and more than κ are then held
+unfoldable pub recoverableNear : Picture → ℕ → ℕ → Bool
+recoverableNear p b v = inBlock p b v && (slotOf p v .near && eqb (slotOf p v .state) 1)
+
+unfoldable pub nearAfter : Picture → ℕ → ℕ
+nearAfter p b = length (filter (λ v. isNearHeld p v || recoverableNear p b v) (range 1 (slotCount p)))
+
+unfoldable pub nearFault : Act → Picture → ℕ → ℕ
+nearFault Evict p b = 0
+nearFault Reload p b = on (any (recoverableNear p b) (range 1 (slotCount p)) && ltb (p .nearLimit) (nearAfter p b)) 12
+nearFault Free p b = 0
+
+-- the number of the first fault: "Acts are judged in the order picture, 8, 11, 10, 12"
+unfoldable pub actFault : Act → List ℕ → ℕ → ℕ
+actFault a bs b =
+    let p : Picture = pictureOf bs in
+    first (pictureFault bs ∷ blockFault p b ∷ on (not (changes a p b)) 11 ∷ cutFault a p b ∷ nearFault a p b ∷ [])
+
+-- the bytes with the state of each slot of a list set by f: the state bits only
+unfoldable pub putStates : Edition → (ℕ → ℕ) → List ℕ → List ℕ → List ℕ
+putStates e f bs [] = bs
+putStates e f bs (zero ∷ vs) = putStates e f bs vs
+putStates e f bs (suc i ∷ vs) = putField (putStates e f bs vs) (slotsAt e + i * sum slotWidths) 2 (f (suc i))
+
+unfoldable pub doneBytes : Act → List ℕ → ℕ → List ℕ
+doneBytes a bs b =
+    let p : Picture = pictureOf bs in
+    putStates (editionOf bs) (λ v. after a (slotOf p v .state)) bs (blockSlots p b)
+
+-- the picture's bytes at exit; after a refusal all as they were
+unfoldable pub actBytes : Act → List ℕ → ℕ → List ℕ
+actBytes a bs b =
+    let done : List ℕ = doneBytes a bs b in
+    cond (eqb (actFault a bs b) 0) done bs
+
+-- the same on a picture's lists
+unfoldable pub slotAfter : Act → Picture → ℕ → ℕ → Slot
+slotAfter a p b v = record { state = cond (inBlock p b v) (after a (slotOf p v .state)) (slotOf p v .state); near = slotOf p v .near }
+
+unfoldable pub actOn : Act → Picture → ℕ → Picture
+actOn a p b =
+    record {
+      blockSize = p .blockSize;
+      nearLimit = p .nearLimit;
+      slots = map (slotAfter a p b) (range 1 (slotCount p));
+      endpoints = p .endpoints;
+      links = p .links;
+      services = p .services;
+    }
+
+-- 0 is done; any other number is a refusal
+unfoldable pub actingOf : ℕ → Acting
+actingOf zero = Done
+actingOf (suc k) = Refused (suc k)
+
+unfoldable pub acting : Act → List ℕ → ℕ → Acting
+acting a bs b = actingOf (actFault a bs b)

@@ -1,0 +1,2 @@
+-- The definitions that the contracts of `acts` cite.
+pub mod Acts
