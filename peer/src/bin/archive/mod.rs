@@ -1,0 +1,47 @@
+//! The other implementation's archive behind safe functions. Each answers what the C call answers:
+//! 0 or a length, or minus the number of the refusal.
+
+mod calls {
+    extern "C" {
+        pub fn blockplan_choose(
+            picture: *const u8,
+            picture_len: usize,
+            evidence: *mut u8,
+            evidence_len: usize,
+        ) -> i32;
+        pub fn blockplan_check(
+            picture: *const u8,
+            picture_len: usize,
+            evidence: *const u8,
+            evidence_len: usize,
+        ) -> i32;
+        pub fn blockplan_evict(picture: *mut u8, picture_len: usize, block: u32) -> i32;
+        pub fn blockplan_reload(picture: *mut u8, picture_len: usize, block: u32) -> i32;
+        pub fn blockplan_free(picture: *mut u8, picture_len: usize, block: u32) -> i32;
+    }
+}
+
+// In every function below: pointer and length come from one slice, also where it is empty, and two
+// slices of which one is mutable do not overlap. That is all the interface asks for.
+
+pub fn choose(picture: &[u8], evidence: &mut [u8]) -> i32 {
+    unsafe {
+        calls::blockplan_choose(picture.as_ptr(), picture.len(), evidence.as_mut_ptr(), evidence.len())
+    }
+}
+
+pub fn check(picture: &[u8], evidence: &[u8]) -> i32 {
+    unsafe { calls::blockplan_check(picture.as_ptr(), picture.len(), evidence.as_ptr(), evidence.len()) }
+}
+
+pub fn evict(picture: &mut [u8], block: u32) -> i32 {
+    unsafe { calls::blockplan_evict(picture.as_mut_ptr(), picture.len(), block) }
+}
+
+pub fn reload(picture: &mut [u8], block: u32) -> i32 {
+    unsafe { calls::blockplan_reload(picture.as_mut_ptr(), picture.len(), block) }
+}
+
+pub fn free(picture: &mut [u8], block: u32) -> i32 {
+    unsafe { calls::blockplan_free(picture.as_mut_ptr(), picture.len(), block) }
+}

@@ -1,0 +1,268 @@
+//! Times of the archive and of the peer in one run, their growth, and the archive's peak stack.
+//!
+//! `bench [REPETITIONS]`: of how many measurements each time is the median.
+
+mod archive;
+mod stack;
+
+use std::env;
+use std::hint::black_box;
+use std::process::exit;
+use std::time::{Duration, Instant};
+
+use peer::networks::{dense_held, hold_all, long_chain, Size};
+use peer::picture::{Picture, State};
+use peer::random::Random;
+use peer::{samples, write};
+
+const DEFAULT_REPETITIONS: usize = 15;
+/// One measurement repeats its call until this is over, so that the clock's grain does not count.
+const LEAST_TIME: Duration = Duration::from_millis(2);
+const SEED: u64 = 7;
+
+/// A picture to measure on, with its evidence.
+struct Case {
+    picture: Vec<u8>,
+    evidence: Vec<u8>,
+}
+
+impl Case {
+    fn of(picture: &Picture) -> Case {
+        let picture = write(picture);
+        let mut evidence = vec![0; 29_600];
+        let length = peer::choose(&picture, &mut evidence).expect("the cases are accepted");
+        evidence.truncate(length);
+        let case = Case { picture, evidence };
+        case.must_agree();
+        case
+    }
+
+    /// Times of two that do different things are no comparison.
+    fn must_agree(&self) {
+        let mut written = vec![0; self.evidence.len()];
+        let answer = archive::choose(&self.picture, &mut written);
+        let agrees = answer == written.len() as i32
+            && written == self.evidence
+            && archive::check(&self.picture, &self.evidence) == 0;
+        if !agrees {
+            eprintln!("bench: archive and peer differ; run compare");
+            exit(1);
+        }
+    }
+
+    fn times(&self, repetitions: usize) -> Times {
+        let mut buffers = [self.evidence.clone(), self.evidence.clone()];
+        let [archive_buffer, peer_buffer] = &mut buffers;
+        let choose = medians(
+            repetitions,
+            || archive::choose(black_box(&self.picture), archive_buffer),
+            || peer::choose(black_box(&self.picture), peer_buffer),
+        );
+        let check = medians(
+            repetitions,
+            || archive::check(black_box(&self.picture), black_box(&self.evidence)),
+            || peer::check(black_box(&self.picture), black_box(&self.evidence)),
+        );
+        Times { choose, check }
+    }
+}
+
+/// Microseconds a call: of the archive and of the peer.
+#[derive(Clone, Copy)]
+struct Medians {
+    archive: f64,
+    peer: f64,
+}
+
+struct Times {
+    choose: Medians,
+    check: Medians,
+}
+
+/// Both calls warmed up, then measured in turn, with the first of the two alternating.
+fn medians<A, P>(
+    repetitions: usize,
+    mut archive: impl FnMut() -> A,
+    mut peer: impl FnMut() -> P,
+) -> Medians {
+    let archive_batch = batch(&mut archive);
+    let peer_batch = batch(&mut peer);
+    let mut archive_times = Vec::with_capacity(repetitions);
+    let mut peer_times = Vec::with_capacity(repetitions);
+    for repetition in 0..repetitions {
+        if repetition.is_multiple_of(2) {
+            archive_times.push(time(&mut archive, archive_batch));
+            peer_times.push(time(&mut peer, peer_batch));
+        } else {
+            peer_times.push(time(&mut peer, peer_batch));
+            archive_times.push(time(&mut archive, archive_batch));
+        }
+    }
+    Medians { archive: median(archive_times), peer: median(peer_times) }
+}
+
+/// How many calls fill the least time; finding it is the warm-up.
+fn batch<T>(call: &mut impl FnMut() -> T) -> u32 {
+    let mut calls = 1;
+    while repeat(call, calls) < LEAST_TIME {
+        calls *= 2;
+    }
+    calls
+}
+
+fn time<T>(call: &mut impl FnMut() -> T, calls: u32) -> f64 {
+    repeat(call, calls).as_secs_f64() * 1e6 / f64::from(calls)
+}
+
+fn repeat<T>(call: &mut impl FnMut() -> T, calls: u32) -> Duration {
+    let start = Instant::now();
+    for _ in 0..calls {
+        black_box(call());
+    }
+    start.elapsed()
+}
+
+fn median(mut times: Vec<f64>) -> f64 {
+    times.sort_by(f64::total_cmp);
+    let middle = times.len() / 2;
+    match times.len() % 2 {
+        0 => (times[middle - 1] + times[middle]) / 2.0,
+        _ => times[middle],
+    }
+}
+
+fn dense(slots: usize, block_size: usize, endpoints: usize, links: usize, serving: usize) -> Picture {
+    let size = Size { block_size, slots, endpoints, links, serving };
+    dense_held(&mut Random::new(SEED), size)
+}
+
+fn cases() -> Vec<(&'static str, Picture)> {
+    vec![
+        ("case A", samples::case_a()),
+        ("middle: n 96, b 4, D 60, L S 400", dense(96, 4, 60, 400, 400)),
+        ("chain: n 240, b 4", long_chain(4, 240, 60)),
+        ("full: n 240, b 4, D 200, L S 2000", dense(240, 4, 200, 2000, 2000)),
+    ]
+}
+
+fn print_times(repetitions: usize) {
+    println!("time a call in microseconds, median of {repetitions}");
+    println!("{:<36}{:<8}{:>12}{:>12}{:>14}", "case", "call", "archive", "peer", "archive/peer");
+    for (name, picture) in cases() {
+        let times = Case::of(&picture).times(repetitions);
+        for (call, medians) in [("choose", times.choose), ("check", times.check)] {
+            let Medians { archive, peer } = medians;
+            println!("{name:<36}{call:<8}{archive:>12.2}{peer:>12.2}{:>14.2}", archive / peer);
+        }
+    }
+}
+
+/// What doubles, and the sizes (n, block size, L, S) in which it does.
+type Series = (&'static str, Vec<(usize, usize, usize, usize)>);
+
+fn series() -> Vec<Series> {
+    vec![
+        ("n, blocks with it", [60, 120, 240].map(|n| (n, 4, 1000, 1000)).to_vec()),
+        ("n, 30 blocks", vec![(60, 2, 1000, 1000), (120, 4, 1000, 1000), (240, 8, 1000, 1000)]),
+        ("L", [250, 500, 1000, 2000].map(|l| (240, 4, l, 1000)).to_vec()),
+        ("S", [250, 500, 1000, 2000].map(|s| (240, 4, 1000, s)).to_vec()),
+        ("n, L and S", [60, 120, 240].map(|n| (n, 4, n * 25 / 3, n * 25 / 3)).to_vec()),
+    ]
+}
+
+fn print_growth(repetitions: usize) {
+    println!();
+    println!("growth of the archive's times as sizes double (D 100, dense, all held, near, reached)");
+    println!(
+        "{:<20}{:>6}{:>6}{:>6}{:>6}{:>14}{:>10}{:>14}{:>10}",
+        "what doubles", "n", "b", "L", "S", "choose us", "growth", "check us", "growth"
+    );
+    for (name, sizes) in series() {
+        let mut last: Option<Times> = None;
+        for (slots, block_size, links, serving) in sizes {
+            let case = Case::of(&dense(slots, block_size, 100, links, serving));
+            let times = case.times(repetitions);
+            let choose_growth = growth(last.as_ref().map(|last| last.choose), times.choose);
+            let check_growth = growth(last.as_ref().map(|last| last.check), times.check);
+            println!(
+                "{name:<20}{slots:>6}{block_size:>6}{links:>6}{serving:>6}{:>14.2}{choose_growth:>10}{:>14.2}{check_growth:>10}",
+                times.choose.archive, times.check.archive
+            );
+            last = Some(times);
+        }
+    }
+}
+
+fn growth(before: Option<Medians>, now: Medians) -> String {
+    match before {
+        None => "-".to_string(),
+        Some(before) => format!("{:.2}", now.archive / before.archive),
+    }
+}
+
+/// Pictures on which evict and free (the first) and reload (the second) of block 0 are done.
+fn pictures_for_acts(picture: &Picture) -> (Vec<u8>, Vec<u8>) {
+    let mut open = picture.clone();
+    open.near_limit = 255;
+    open.endpoints.iter_mut().for_each(|endpoint| endpoint.protected = false);
+    hold_all(&mut open);
+    let mut evicted = open.clone();
+    for location in open.block_locations(0) {
+        evicted.slots[location - 1].state = State::Recoverable;
+    }
+    (write(&open), write(&evicted))
+}
+
+fn peaks(picture: &Picture) -> [usize; 5] {
+    let case = Case::of(picture);
+    let (open, evicted) = pictures_for_acts(picture);
+    let mut buffer = vec![0; case.evidence.len()];
+    let act = |act: fn(&mut [u8], u32) -> i32, picture: &[u8]| {
+        // The call runs twice, each time on the picture as it was.
+        let mut lent = picture.to_vec();
+        stack::peak(&mut || {
+            lent.copy_from_slice(picture);
+            assert_eq!(act(&mut lent, 0), 0, "an act that is done");
+        })
+    };
+    [
+        stack::peak(&mut || {
+            archive::choose(&case.picture, &mut buffer);
+        }),
+        stack::peak(&mut || {
+            archive::check(&case.picture, &case.evidence);
+        }),
+        act(archive::evict, &open),
+        act(archive::reload, &evicted),
+        act(archive::free, &open),
+    ]
+}
+
+fn print_stack() {
+    println!();
+    println!("peak stack of the archive's calls in bytes (upper estimates: a page of 4096 is added)");
+    println!(
+        "{:<36}{:>10}{:>10}{:>10}{:>10}{:>10}",
+        "case", "choose", "check", "evict", "reload", "free"
+    );
+    for (name, picture) in cases() {
+        let [choose, check, evict, reload, free] = peaks(&picture);
+        println!("{name:<36}{choose:>10}{check:>10}{evict:>10}{reload:>10}{free:>10}");
+    }
+}
+
+fn main() {
+    let arguments: Vec<String> = env::args().skip(1).collect();
+    let repetitions = match arguments.as_slice() {
+        [] => Some(DEFAULT_REPETITIONS),
+        [text] => text.parse().ok().filter(|repetitions| *repetitions > 0),
+        _ => None,
+    };
+    let Some(repetitions) = repetitions else {
+        eprintln!("usage: bench [REPETITIONS], at least 1");
+        exit(2)
+    };
+    print_times(repetitions);
+    print_growth(repetitions);
+    print_stack();
+}

@@ -1,0 +1,99 @@
+//! Evidence with other forests: valid ones from another maker, and ones that only look valid.
+
+use peer::foreign::{self, GROWTHS};
+use peer::networks::{network, Size, SHAPES};
+use peer::picture::Picture;
+use peer::random::Random;
+use peer::write;
+
+use super::evidence::{forest_start, random_fields};
+use super::harness::Comparison;
+
+/// Foreign evidence as it is, which must pass, and then with forests or fields spoilt.
+pub fn foreign(comparison: &mut Comparison, random: &mut Random, count: usize) {
+    for round in 0..4 * count {
+        let shape = *random.pick(&SHAPES);
+        let size = if round.is_multiple_of(32) { Size::any(random) } else { Size::small(random) };
+        let picture = network(random, shape, size);
+        for growth in GROWTHS {
+            let evidence = foreign::evidence(random, &picture, growth);
+            let answer = comparison.check(&write(&picture), &evidence);
+            comparison.expect("check of valid foreign evidence", answer, 0);
+            spoilt(comparison, random, &picture, &evidence);
+        }
+    }
+}
+
+fn spoilt(comparison: &mut Comparison, random: &mut Random, picture: &Picture, evidence: &[u8]) {
+    let bytes = write(picture);
+    let ways = [rehang, rehang, drop, copy_forest, shift_depths, hang_on_itself];
+    for way in ways {
+        let mut changed = evidence.to_vec();
+        for _ in 0..random.between(1, 2) {
+            let start = forest_start(picture.slots.len(), random.below(usize::from(evidence[2]) + 1));
+            way(random, picture, &mut changed, start);
+        }
+        comparison.check(&bytes, &changed);
+    }
+    random_fields(comparison, random, picture, evidence, 2);
+}
+
+/// The place of a slot's entry in the forest that starts at `start`.
+fn entry(start: usize, slot: usize) -> usize {
+    start + 2 * (slot - 1)
+}
+
+fn depth_of(evidence: &[u8], start: usize, location: usize) -> u8 {
+    match location {
+        0 => 0,
+        _ => evidence[entry(start, location) + 1],
+    }
+}
+
+/// Hangs a slot on any location with a link to it: unreached, not held, evicted or below it too.
+fn rehang(random: &mut Random, picture: &Picture, evidence: &mut [u8], start: usize) {
+    if picture.links.is_empty() {
+        return;
+    }
+    let (from, to) = *random.pick(&picture.links);
+    if to == 0 {
+        return;
+    }
+    let depth = depth_of(evidence, start, usize::from(from)).wrapping_add(1);
+    let place = entry(start, usize::from(to));
+    evidence[place..place + 2].copy_from_slice(&[from, depth]);
+}
+
+/// Calls a slot unreached, with or without its parent.
+fn drop(random: &mut Random, picture: &Picture, evidence: &mut [u8], start: usize) {
+    let place = entry(start, random.between(1, picture.slots.len()));
+    evidence[place + 1] = 0;
+    if random.once_in(2) {
+        evidence[place] = 0;
+    }
+}
+
+/// Takes the forest of another section, in which another block is missing.
+fn copy_forest(random: &mut Random, picture: &Picture, evidence: &mut [u8], start: usize) {
+    let slots = picture.slots.len();
+    let other = forest_start(slots, random.below(usize::from(evidence[2]) + 1));
+    evidence.copy_within(other..other + 2 * slots, start);
+}
+
+/// Sets every depth off by one: only the entries on the origin break the rule.
+fn shift_depths(_: &mut Random, picture: &Picture, evidence: &mut [u8], start: usize) {
+    for slot in 1..=picture.slots.len() {
+        let place = entry(start, slot) + 1;
+        if evidence[place] > 0 {
+            evidence[place] = evidence[place].wrapping_add(1);
+        }
+    }
+}
+
+/// Names a slot its own parent, or one above the last slot.
+fn hang_on_itself(random: &mut Random, picture: &Picture, evidence: &mut [u8], start: usize) {
+    let slot = random.between(1, picture.slots.len());
+    let place = entry(start, slot);
+    evidence[place] = *random.pick(&[slot, picture.slots.len() + 1, 255]) as u8;
+    evidence[place + 1] = random.below(3) as u8;
+}

@@ -1,0 +1,108 @@
+//! The groups of inputs, and what each accepted or refused picture is put through.
+
+mod acts;
+mod evidence;
+mod forests;
+pub mod harness;
+mod networks;
+mod pictures;
+mod raw;
+mod watch;
+
+use harness::{Comparison, ACTS};
+use peer::random::Random;
+
+/// Longer than any evidence.
+const ROOM: usize = 29_600;
+
+type Group = fn(&mut Comparison, &mut Random, usize);
+
+pub const ALL: [(&str, Group); 22] = [
+    ("truncations of the samples", pictures::truncations),
+    ("bit flips of the samples", pictures::bit_flips),
+    ("header fields, each value", pictures::header_fields),
+    ("limits and one more", pictures::limits),
+    ("damaged pictures", pictures::damaged),
+    ("random bytes as pictures", pictures::random_bytes),
+    ("networks: small", networks::small),
+    ("networks: dense", networks::dense),
+    ("networks: chains", networks::chains),
+    ("networks: cycles", networks::cycles),
+    ("networks: stars", networks::stars),
+    ("networks: flat", networks::flat),
+    ("networks: unreached", networks::unreached),
+    ("networks: repeated links", networks::repeated),
+    ("networks: layers", networks::layers),
+    ("networks: full size", networks::full),
+    ("evidence of the samples", evidence::of_samples),
+    ("evidence, fields", evidence::fields),
+    ("evidence, lengths and pictures", evidence::strangers),
+    ("evidence, foreign", forests::foreign),
+    ("near limits", acts::near_limits),
+    ("sequences of acts", acts::sequences),
+];
+
+/// The canonical evidence, or nothing if the picture is refused.
+fn canonical(picture: &[u8]) -> Option<Vec<u8>> {
+    let mut buffer = vec![0; ROOM];
+    let length = peer::choose(picture, &mut buffer).ok()?;
+    buffer.truncate(length);
+    Some(buffer)
+}
+
+/// Choose with every kind of buffer, and the check of what it wrote.
+fn choose_and_check(comparison: &mut Comparison, random: &mut Random, picture: &[u8]) {
+    match canonical(picture) {
+        None => {
+            for room in [0, 43, ROOM] {
+                comparison.choose(picture, room);
+            }
+            comparison.check(picture, &[]);
+            comparison.check(picture, &peer::samples::A_EVIDENCE);
+        }
+        Some(evidence) => {
+            let length = evidence.len();
+            for room in [0, random.below(length), length - 1] {
+                comparison.choose(picture, room);
+            }
+            for room in [length, length + random.between(1, 300)] {
+                let answer = comparison.choose(picture, room);
+                comparison.expect("choose", answer, length as i32);
+            }
+            let answer = comparison.check(picture, &evidence);
+            comparison.expect("check of the canonical evidence", answer, 0);
+        }
+    }
+}
+
+/// Numbers that no block has; the last one's low bits are a block's number.
+fn no_blocks(random: &mut Random, blocks: u32) -> [u32; 5] {
+    let cut_off = *random.pick(&[1 << 8, 1 << 16, 1 << 24]) + random.below(blocks as usize) as u32;
+    [blocks, blocks + 1, 1 << 31, u32::MAX, cut_off]
+}
+
+/// Each act on these blocks, each time on the same picture.
+fn all_acts(comparison: &mut Comparison, picture: &[u8], blocks: impl Iterator<Item = u32>) {
+    for block in blocks {
+        for act in &ACTS {
+            comparison.act(act, &mut picture.to_vec(), block);
+        }
+    }
+}
+
+/// Every call on one picture that need not be an accepted one, with all its blocks.
+fn every_call(comparison: &mut Comparison, random: &mut Random, picture: &[u8]) {
+    choose_and_check(comparison, random, picture);
+    let blocks = peer::read(picture).map_or(2, |picture| picture.block_count() as u32);
+    let outside = no_blocks(random, blocks);
+    all_acts(comparison, picture, (0..blocks).chain(outside));
+}
+
+/// A few calls on one picture, where there are many pictures.
+fn some_calls(comparison: &mut Comparison, random: &mut Random, picture: &[u8]) {
+    let room = canonical(picture).map_or(43, |evidence| evidence.len());
+    comparison.choose(picture, room);
+    comparison.check(picture, &canonical(picture).unwrap_or_default());
+    let block = random.below(4) as u32;
+    comparison.act(random.pick(&ACTS), &mut picture.to_vec(), block);
+}

@@ -1,0 +1,83 @@
+//! Random networks of each shape, put through every call.
+
+use peer::networks::{network, Shape, Size, SHAPES};
+use peer::picture::Picture;
+use peer::random::Random;
+use peer::write;
+
+use super::harness::Comparison;
+use super::{all_acts, choose_and_check, every_call, no_blocks};
+
+/// Small networks of all shapes.
+pub fn small(comparison: &mut Comparison, random: &mut Random, count: usize) {
+    for _ in 0..count {
+        for shape in SHAPES {
+            let size = Size::small(random);
+            let picture = network(random, shape, size);
+            every_call(comparison, random, &write(&picture));
+        }
+    }
+}
+
+pub fn dense(comparison: &mut Comparison, random: &mut Random, count: usize) {
+    of_shape(comparison, random, count, Shape::Dense);
+}
+
+pub fn chains(comparison: &mut Comparison, random: &mut Random, count: usize) {
+    of_shape(comparison, random, count, Shape::Chain);
+}
+
+pub fn cycles(comparison: &mut Comparison, random: &mut Random, count: usize) {
+    of_shape(comparison, random, count, Shape::Cycle);
+}
+
+pub fn stars(comparison: &mut Comparison, random: &mut Random, count: usize) {
+    of_shape(comparison, random, count, Shape::Star);
+}
+
+pub fn flat(comparison: &mut Comparison, random: &mut Random, count: usize) {
+    of_shape(comparison, random, count, Shape::Flat);
+}
+
+pub fn unreached(comparison: &mut Comparison, random: &mut Random, count: usize) {
+    of_shape(comparison, random, count, Shape::Unreached);
+}
+
+pub fn repeated(comparison: &mut Comparison, random: &mut Random, count: usize) {
+    of_shape(comparison, random, count, Shape::Repeated);
+}
+
+pub fn layers(comparison: &mut Comparison, random: &mut Random, count: usize) {
+    of_shape(comparison, random, count, Shape::Layers);
+}
+
+/// Networks with every count at its limit.
+pub fn full(comparison: &mut Comparison, random: &mut Random, count: usize) {
+    for round in 0..count.div_ceil(32) {
+        let size = Size::full(random);
+        let picture = network(random, SHAPES[round % SHAPES.len()], size);
+        large(comparison, random, &picture, round);
+    }
+}
+
+fn of_shape(comparison: &mut Comparison, random: &mut Random, count: usize, shape: Shape) {
+    for round in 0..count.div_ceil(16) {
+        let size = Size::any(random);
+        let picture = network(random, shape, size);
+        large(comparison, random, &picture, round);
+    }
+}
+
+/// Every call; every block in some of the networks, in the others a few.
+fn large(comparison: &mut Comparison, random: &mut Random, picture: &Picture, round: usize) {
+    let bytes = write(picture);
+    if round.is_multiple_of(8) {
+        every_call(comparison, random, &bytes);
+        return;
+    }
+    choose_and_check(comparison, random, &bytes);
+    let blocks = picture.block_count() as u32;
+    let few = [(); 4].map(|_| random.below(blocks as usize) as u32);
+    let outside = no_blocks(random, blocks);
+    all_acts(comparison, &bytes, few.into_iter().chain([blocks - 1]).chain(outside));
+}

@@ -1,0 +1,175 @@
+//! Checking evidence. Nothing is searched here: the forests that the evidence brings are followed.
+
+use std::ops::Range;
+
+use crate::choice::{evidence_bytes, section_bytes, EVIDENCE_EDITION, HEAD_BYTES, SECTION_HEAD_BYTES};
+use crate::fault;
+use crate::picture::{read, Picture};
+use crate::reach::{Forest, Network, NOTHING};
+
+/// Evidence whose shape is right: everything that number 13 judges holds.
+struct Evidence<'e> {
+    verdict: u8,
+    block: u8,
+    served: u32,
+    loss: u32,
+    forest: Forest,
+    sections: Vec<Section<'e>>,
+}
+
+struct Section<'e> {
+    block: u8,
+    loss: u32,
+    mark: u8,
+    forest: Forest,
+    bytes: &'e [u8],
+}
+
+impl<'e> Evidence<'e> {
+    fn read(picture: &Picture, bytes: &'e [u8]) -> Result<Evidence<'e>, u8> {
+        let slots = picture.slots.len();
+        let candidates = picture.candidates();
+        if bytes.len() != evidence_bytes(slots, candidates.len()) {
+            return Err(fault::SHAPE);
+        }
+        let (head, rest) = bytes.split_at(HEAD_BYTES);
+        let (forest, rest) = rest.split_at(2 * slots);
+        let evidence = Evidence {
+            verdict: head[0] & 15,
+            block: head[1],
+            served: three_bytes(&head[3..6]),
+            loss: three_bytes(&head[6..9]),
+            forest: read_forest(forest),
+            sections: rest.chunks(section_bytes(slots)).map(Section::read).collect(),
+        };
+        let head_fits = head[0] >> 4 == EVIDENCE_EDITION
+            && evidence.verdict <= 1
+            && usize::from(head[2]) == candidates.len();
+        let sections_fit = evidence.sections.iter().all(|section| section.mark <= 1)
+            && evidence.sections.iter().map(|section| section.block).eq(candidates);
+        if head_fits && sections_fit {
+            Ok(evidence)
+        } else {
+            Err(fault::SHAPE)
+        }
+    }
+
+    /// Verdict, block and loss are as the sections imply; any least admissible candidate will do.
+    fn verdict_fits(&self) -> bool {
+        let admissible = || self.sections.iter().filter(|section| section.mark == 0);
+        match admissible().map(|section| section.loss).min() {
+            None => self.verdict == 0 && self.block == 0 && self.loss == 0,
+            Some(least) => {
+                self.verdict == 1
+                    && self.loss == least
+                    && admissible().any(|section| section.block == self.block && section.loss == least)
+            }
+        }
+    }
+}
+
+impl<'e> Section<'e> {
+    fn read(bytes: &'e [u8]) -> Section<'e> {
+        Section {
+            block: bytes[0],
+            loss: three_bytes(&bytes[1..4]),
+            mark: bytes[4],
+            forest: read_forest(&bytes[SECTION_HEAD_BYTES..]),
+            bytes,
+        }
+    }
+}
+
+fn three_bytes(bytes: &[u8]) -> u32 {
+    bytes.iter().fold(0, |value, byte| value << 8 | u32::from(*byte))
+}
+
+fn read_forest(bytes: &[u8]) -> Forest {
+    let mut forest = Forest::bare(bytes.len() / 2);
+    for (location, entry) in (1..).zip(bytes.chunks(2)) {
+        forest.parent[location] = entry[0];
+        forest.depth[location] = entry[1];
+    }
+    forest
+}
+
+/// Every entry hangs on a chain from the origin, and no link leads on from the forest.
+fn forest_fits(network: &Network, forest: &Forest, evicted: &Range<usize>) -> bool {
+    let slots = network.picture.slots.len();
+    (1..=slots).all(|slot| entry_fits(network, forest, slot, evicted))
+        && (0..=slots)
+            .filter(|from| forest.reaches(*from))
+            .all(|from| no_link_leads_on(network, forest, from, evicted))
+}
+
+fn entry_fits(network: &Network, forest: &Forest, slot: usize, evicted: &Range<usize>) -> bool {
+    let parent = usize::from(forest.parent[slot]);
+    let depth = forest.depth[slot];
+    if depth == 0 {
+        return parent == 0;
+    }
+    network.carries(slot, evicted)
+        && parent <= network.picture.slots.len()
+        // A slot of depth 0 is no parent, though its depth is the origin's.
+        && forest.reaches(parent)
+        && forest.depth[parent] == depth - 1
+        && network.links[parent].binary_search(&(slot as u8)).is_ok()
+}
+
+fn no_link_leads_on(network: &Network, forest: &Forest, from: usize, evicted: &Range<usize>) -> bool {
+    network.links[from].iter().all(|&to| {
+        let to = usize::from(to);
+        forest.reaches(to) || !network.carries(to, evicted)
+    })
+}
+
+fn sections_fit(picture: &Picture, evidence: &Evidence) -> Result<(), u8> {
+    let network = Network::new(picture);
+    if !forest_fits(&network, &evidence.forest, &NOTHING) {
+        return Err(fault::FOREST);
+    }
+    let before = network.served(&evidence.forest);
+    if network.served_weight(&before) != evidence.served {
+        return Err(fault::SUM);
+    }
+    for section in &evidence.sections {
+        let evicted = picture.block_locations(usize::from(section.block));
+        if !forest_fits(&network, &section.forest, &evicted) {
+            return Err(fault::FOREST);
+        }
+        let cut = network.cut(&before, &network.served(&section.forest));
+        if cut.loss != section.loss || cut.mark != section.mark {
+            return Err(fault::SUM);
+        }
+    }
+    Ok(())
+}
+
+fn checked<'e>(picture: &[u8], evidence: &'e [u8]) -> Result<Evidence<'e>, u8> {
+    let picture = read(picture)?;
+    let evidence = Evidence::read(&picture, evidence)?;
+    sections_fit(&picture, &evidence)?;
+    if evidence.verdict_fits() {
+        Ok(evidence)
+    } else {
+        Err(fault::VERDICT)
+    }
+}
+
+/// Whether the evidence passes for the picture, or its first fault.
+pub fn check(picture: &[u8], evidence: &[u8]) -> Result<(), u8> {
+    checked(picture, evidence).map(|_| ())
+}
+
+/// The chosen candidate's section of the evidence; the empty part at its start if there is none.
+pub fn show<'e>(picture: &[u8], evidence: &'e [u8]) -> &'e [u8] {
+    let empty = &evidence[..0];
+    match checked(picture, evidence) {
+        Ok(passed) if passed.verdict == 1 => passed
+            .sections
+            .iter()
+            .find(|section| section.block == passed.block)
+            .map_or(empty, |section| section.bytes),
+        _ => empty,
+    }
+}

@@ -1,0 +1,31 @@
+//! The plain peer of the block planner: document 01 with adjacency lists and one breadth-first
+//! search a candidate. Another implementation is held against it, in results and in speed.
+//!
+//! Words are those of document 01, with origin for the office, endpoint for a cab and network for
+//! a farm. Refusals are the numbers of document 01, see [`fault`].
+
+#![forbid(unsafe_code)]
+
+pub mod acts;
+pub mod bits;
+pub mod check;
+pub mod choice;
+pub mod fault;
+pub mod picture;
+pub mod reach;
+
+// Inputs for the tests and for the two binaries.
+pub mod foreign;
+pub mod networks;
+pub mod random;
+pub mod samples;
+
+pub use acts::{evict, free, reload};
+pub use check::{check, show};
+pub use choice::{choose, weigh};
+pub use picture::{read, write, Picture};
+
+#[cfg(test)]
+mod random_tests;
+#[cfg(test)]
+mod tests;

@@ -1,0 +1,257 @@
+//! Random networks of many shapes, every one within the limits of document 01.
+
+use crate::picture::{Endpoint, Picture, Slot, State};
+use crate::picture::{MAX_BLOCKS, MAX_BLOCK_SIZE, MAX_ENDPOINTS, MAX_LINKS, MAX_SLOTS};
+use crate::random::Random;
+
+#[derive(Clone, Copy, Debug)]
+pub struct Size {
+    pub block_size: usize,
+    pub slots: usize,
+    pub endpoints: usize,
+    pub links: usize,
+    pub serving: usize,
+}
+
+impl Size {
+    /// A few slots, so that every field of the evidence can be tried.
+    pub fn small(random: &mut Random) -> Size {
+        let block_size = random.between(1, 3);
+        Size {
+            block_size,
+            slots: block_size * random.between(1, 4),
+            endpoints: random.between(0, 4),
+            links: random.between(0, 14),
+            serving: random.between(0, 8),
+        }
+    }
+
+    /// Any size up to the limits.
+    pub fn any(random: &mut Random) -> Size {
+        let block_size = random.between(1, MAX_BLOCK_SIZE);
+        let blocks = random.between(1, MAX_BLOCKS.min(MAX_SLOTS / block_size));
+        let slots = block_size * blocks;
+        Size {
+            block_size,
+            slots,
+            endpoints: random.between(0, MAX_ENDPOINTS),
+            links: random.between(0, MAX_LINKS.min(8 * slots)),
+            serving: random.between(0, MAX_LINKS),
+        }
+    }
+
+    /// Every count at its limit.
+    pub fn full(random: &mut Random) -> Size {
+        let block_size = random.between(4, MAX_BLOCK_SIZE);
+        Size {
+            block_size,
+            slots: block_size * (MAX_SLOTS / block_size),
+            endpoints: MAX_ENDPOINTS,
+            links: MAX_LINKS,
+            serving: MAX_LINKS,
+        }
+    }
+}
+
+#[derive(Clone, Copy, Debug)]
+pub enum Shape {
+    /// Links between any two locations.
+    Dense,
+    /// Each slot linked to the next, in a random order of the slots.
+    Chain,
+    /// A chain closed to a ring, with or without a link from the origin.
+    Cycle,
+    /// One hub that is linked to all others.
+    Star,
+    /// Every link leaves the origin.
+    Flat,
+    /// Most slots have no chain from the origin.
+    Unreached,
+    /// Few distinct links, many times, with links to oneself and into the origin.
+    Repeated,
+    /// Layers of a few slots, so that slots have several parents of one depth.
+    Layers,
+}
+
+pub const SHAPES: [Shape; 8] = [
+    Shape::Dense,
+    Shape::Chain,
+    Shape::Cycle,
+    Shape::Star,
+    Shape::Flat,
+    Shape::Unreached,
+    Shape::Repeated,
+    Shape::Layers,
+];
+
+/// A random network of this shape: links, states, near marks, weights and protection mixed.
+pub fn network(random: &mut Random, shape: Shape, size: Size) -> Picture {
+    let slots = random_slots(random, size.slots);
+    let endpoints = random_endpoints(random, size.endpoints);
+    let links = random_links(random, shape, size);
+    let serving = random_serving(random, size);
+    let near_limit = *random.pick(&[0, 1, size.slots / 2, size.slots, 255]) as u8;
+    Picture { block_size: size.block_size as u8, near_limit, slots, endpoints, links, serving }
+}
+
+/// A dense random network for measuring: every slot is held and near and, where there are links
+/// enough, reached, so that times of different sizes can be set side by side.
+pub fn dense_held(random: &mut Random, size: Size) -> Picture {
+    let mut picture = network(random, Shape::Dense, size);
+    hold_all(&mut picture);
+    picture.near_limit = 255;
+    for (slot, link) in (1..=size.slots).zip(&mut picture.links) {
+        *link = (random.below(slot) as u8, slot as u8);
+    }
+    random.shuffle(&mut picture.links);
+    for endpoint in &mut picture.endpoints {
+        *endpoint = Endpoint { weight: random.below(1000) as u16, protected: random.once_in(16) };
+    }
+    picture
+}
+
+/// Each slot linked to the next in rising order, every slot held and near and serving.
+pub fn long_chain(block_size: usize, slots: usize, endpoints: usize) -> Picture {
+    let served = |slot: usize| (slot as u8, (slot % endpoints + 1) as u8);
+    Picture {
+        block_size: block_size as u8,
+        near_limit: 255,
+        slots: vec![Slot { state: State::Held, near: true }; slots],
+        endpoints: vec![Endpoint { weight: 1, protected: false }; endpoints],
+        links: (0..slots).map(|from| (from as u8, from as u8 + 1)).collect(),
+        serving: (1..=slots).map(served).collect(),
+    }
+}
+
+pub fn hold_all(picture: &mut Picture) {
+    picture.slots.fill(Slot { state: State::Held, near: true });
+}
+
+fn random_slots(random: &mut Random, count: usize) -> Vec<Slot> {
+    // Shares in eighths: how many slots are not held, and how many are far.
+    let not_held = *random.pick(&[0, 0, 1, 2, 4, 7, 8]);
+    let far = *random.pick(&[0, 0, 1, 4, 7, 8]);
+    (0..count)
+        .map(|_| {
+            let state = match random.below(8) < not_held {
+                false => State::Held,
+                true => *random.pick(&[State::Recoverable, State::Freed]),
+            };
+            Slot { state, near: random.below(8) >= far }
+        })
+        .collect()
+}
+
+fn random_endpoints(random: &mut Random, count: usize) -> Vec<Endpoint> {
+    // Small weights bring ties, the largest the largest sums.
+    let (lowest, highest) = *random.pick(&[(0, 0), (0, 2), (1, 1), (0, 65535), (65535, 65535)]);
+    let protected = *random.pick(&[0, 1, 4, 16, 64]);
+    (0..count)
+        .map(|_| Endpoint {
+            weight: random.between(lowest, highest) as u16,
+            protected: random.below(64) < protected,
+        })
+        .collect()
+}
+
+fn random_serving(random: &mut Random, size: Size) -> Vec<(u8, u8)> {
+    if size.endpoints == 0 {
+        return Vec::new();
+    }
+    // Serving from few locations makes single blocks matter.
+    let locations = match random.below(3) {
+        0 => random.between(0, size.slots),
+        _ => size.slots,
+    };
+    (0..size.serving)
+        .map(|_| (random.between(0, locations) as u8, random.between(1, size.endpoints) as u8))
+        .collect()
+}
+
+fn random_links(random: &mut Random, shape: Shape, size: Size) -> Vec<(u8, u8)> {
+    let mut links = match shape {
+        Shape::Dense => filled(random, size.links, |random| any_link(random, size.slots)),
+        Shape::Chain => chain(random, size.slots),
+        Shape::Cycle => cycle(random, size.slots),
+        Shape::Star => star(random, size.slots),
+        Shape::Flat => filled(random, size.links, |random| (0, random.between(0, size.slots) as u8)),
+        Shape::Unreached => filled(random, size.links, |random| apart(random, size.slots)),
+        Shape::Repeated => repeated(random, size),
+        Shape::Layers => filled(random, size.links, |random| between_layers(random, size.slots)),
+    };
+    add_some(random, &mut links, size);
+    random.shuffle(&mut links);
+    links.truncate(MAX_LINKS);
+    links
+}
+
+fn filled(
+    random: &mut Random,
+    count: usize,
+    mut link: impl FnMut(&mut Random) -> (u8, u8),
+) -> Vec<(u8, u8)> {
+    (0..count).map(|_| link(random)).collect()
+}
+
+fn any_link(random: &mut Random, slots: usize) -> (u8, u8) {
+    (random.between(0, slots) as u8, random.between(0, slots) as u8)
+}
+
+/// A few links of any kind in some networks, so that no shape is always pure.
+fn add_some(random: &mut Random, links: &mut Vec<(u8, u8)>, size: Size) {
+    if random.once_in(3) {
+        for _ in 0..random.below(4) {
+            links.push(any_link(random, size.slots));
+        }
+    }
+}
+
+fn chain(random: &mut Random, slots: usize) -> Vec<(u8, u8)> {
+    let mut order: Vec<u8> = (1..=slots as u8).collect();
+    if random.once_in(2) {
+        random.shuffle(&mut order);
+    }
+    order.insert(0, 0);
+    order.windows(2).map(|pair| (pair[0], pair[1])).collect()
+}
+
+fn cycle(random: &mut Random, slots: usize) -> Vec<(u8, u8)> {
+    let mut links = chain(random, slots);
+    links.push((links[slots - 1].1, links[0].1));
+    if random.once_in(2) {
+        links.remove(0);
+    }
+    links
+}
+
+fn star(random: &mut Random, slots: usize) -> Vec<(u8, u8)> {
+    let hub = random.between(1, slots) as u8;
+    let mut links: Vec<(u8, u8)> = (1..=slots as u8).map(|to| (hub, to)).collect();
+    links.push((0, hub));
+    links
+}
+
+fn apart(random: &mut Random, slots: usize) -> (u8, u8) {
+    let edge = slots / 4;
+    match random.once_in(4) {
+        true => (random.between(0, edge) as u8, random.between(0, edge) as u8),
+        false => (random.between(edge + 1, slots) as u8, random.between(0, slots) as u8),
+    }
+}
+
+fn repeated(random: &mut Random, size: Size) -> Vec<(u8, u8)> {
+    let mut few = vec![(0, 1), (1, 1), (1, 0), (0, 0)];
+    few.extend(filled(random, 6, |random| any_link(random, size.slots)));
+    filled(random, size.links, |random| *random.pick(&few))
+}
+
+fn between_layers(random: &mut Random, slots: usize) -> (u8, u8) {
+    const WIDTH: usize = 5;
+    let layer = random.below(slots.div_ceil(WIDTH));
+    let to = (layer * WIDTH + random.between(1, WIDTH)).min(slots);
+    let from = match layer {
+        0 => 0,
+        _ => (layer - 1) * WIDTH + random.between(1, WIDTH),
+    };
+    (from as u8, to as u8)
+}

@@ -1,0 +1,135 @@
+//! Properties on random networks, and the forests held against document 01's own words.
+
+use crate::foreign::{self, GROWTHS};
+use crate::networks::{network, Size, SHAPES};
+use crate::picture::State;
+use crate::random::Random;
+use crate::tests::{choice_of, evidence_of};
+use crate::{check, evict, read, weigh, write, Picture};
+
+fn small_networks(seed: u64, count: usize) -> impl Iterator<Item = Picture> {
+    let mut random = Random::new(seed);
+    (0..count).map(move |_| {
+        let size = Size::small(&mut random);
+        let shape = *random.pick(&SHAPES);
+        network(&mut random, shape, size)
+    })
+}
+
+/// The fewest links from the origin to each location, found by following every link until nothing
+/// changes any more; no search, no order.
+fn fewest_links(picture: &Picture, evicted: usize) -> Vec<Option<u8>> {
+    let carries = |slot: usize| {
+        let block = (slot - 1) / usize::from(picture.block_size);
+        picture.slots[slot - 1].state == State::Held && block != evicted
+    };
+    let mut fewest = vec![None; picture.slots.len() + 1];
+    fewest[0] = Some(0);
+    for _ in &picture.slots {
+        for &(from, to) in &picture.links {
+            let (from, to) = (usize::from(from), usize::from(to));
+            if let (Some(depth), true) = (fewest[from], to > 0 && carries(to)) {
+                fewest[to] = Some(fewest[to].map_or(depth + 1, |old: u8| old.min(depth + 1)));
+            }
+        }
+    }
+    fewest
+}
+
+/// The forest's bytes by the words of document 01.
+fn forest_by_words(picture: &Picture, fewest: &[Option<u8>]) -> Vec<u8> {
+    let entry = |slot: usize| match fewest[slot] {
+        None => [0, 0],
+        Some(depth) => {
+            let leads_here = |from: &u8| {
+                fewest[usize::from(*from)] == Some(depth - 1)
+                    && picture.links.contains(&(*from, slot as u8))
+            };
+            let parent = (0..=picture.slots.len() as u8).find(leads_here);
+            [parent.expect("a reached slot has a parent"), depth]
+        }
+    };
+    (1..=picture.slots.len()).flat_map(entry).collect()
+}
+
+fn served_by_words(picture: &Picture, fewest: &[Option<u8>], endpoint: usize) -> bool {
+    let serves = |(location, to): &(u8, u8)| {
+        usize::from(*to) == endpoint && fewest[usize::from(*location)].is_some()
+    };
+    picture.serving.iter().any(serves)
+}
+
+/// Served weight, loss and mark between two states of reach, endpoint by endpoint.
+fn weighed_by_words(picture: &Picture, now: &[Option<u8>], then: &[Option<u8>]) -> (u32, u32, u8) {
+    let (mut served, mut loss, mut mark) = (0, 0, 0);
+    for (endpoint, facts) in (1..).zip(&picture.endpoints) {
+        if served_by_words(picture, now, endpoint) {
+            served += u32::from(facts.weight);
+            if !served_by_words(picture, then, endpoint) {
+                loss += u32::from(facts.weight);
+                mark |= u8::from(facts.protected);
+            }
+        }
+    }
+    (served, loss, mark)
+}
+
+fn is_candidate_by_words(picture: &Picture, block: usize) -> bool {
+    let size = usize::from(picture.block_size);
+    let held_near = |location: usize| {
+        let slot = picture.slots[location - 1];
+        slot.state == State::Held && slot.near
+    };
+    (block * size + 1..=block * size + size).any(held_near)
+}
+
+#[test]
+fn weights_and_forests_follow_the_words() {
+    for picture in small_networks(2, 1000) {
+        let bytes = write(&picture);
+        let evidence = evidence_of(&bytes);
+        let length = 2 * picture.slots.len();
+        let now = fewest_links(&picture, usize::MAX);
+        assert_eq!(evidence[9..9 + length], forest_by_words(&picture, &now));
+        let mut sections = evidence[9 + length..].chunks(5 + length);
+        for block in 0..picture.block_count() {
+            let then = fewest_links(&picture, block);
+            let (served, loss, mark) = weighed_by_words(&picture, &now, &then);
+            assert_eq!(weigh(&bytes, block as u32), Ok((served, loss, mark)));
+            if is_candidate_by_words(&picture, block) {
+                let section = sections.next().expect("a section for each candidate");
+                assert_eq!(usize::from(section[0]), block);
+                assert_eq!(section[1..4], loss.to_be_bytes()[1..]);
+                assert_eq!(section[4], mark);
+                assert_eq!(section[5..], forest_by_words(&picture, &then));
+            }
+        }
+        assert!(sections.next().is_none());
+    }
+}
+
+#[test]
+fn every_evidence_passes_and_every_choice_can_be_evicted() {
+    let mut random = Random::new(1);
+    let sizes = [Size::any(&mut random), Size::any(&mut random), Size::full(&mut random)];
+    let large: Vec<Picture> = SHAPES
+        .iter()
+        .flat_map(|shape| sizes.map(|size| (*shape, size)))
+        .map(|(shape, size)| network(&mut random, shape, size))
+        .collect();
+    for picture in small_networks(3, 400).chain(large) {
+        let bytes = write(&picture);
+        assert_eq!(read(&bytes).as_ref(), Ok(&picture));
+        assert_eq!(check(&bytes, &evidence_of(&bytes)), Ok(()));
+        for growth in GROWTHS {
+            let foreign = foreign::evidence(&mut random, &picture, growth);
+            assert_eq!(check(&bytes, &foreign), Ok(()), "{growth:?}");
+        }
+        let (served, chosen) = choice_of(&bytes);
+        let mut after = bytes;
+        if let Some((block, loss)) = chosen {
+            assert_eq!(evict(&mut after, u32::from(block)), Ok(()));
+            assert_eq!(choice_of(&after).0, served - loss);
+        }
+    }
+}

@@ -1,0 +1,209 @@
+//! Document 01's examples and its table of numbers.
+
+use crate::choice::evidence_bytes;
+use crate::picture::State;
+use crate::samples::{all, case, case_a, A_BYTES, A_EVIDENCE};
+use crate::{check, choose, evict, fault, free, read, reload, show, weigh, write, Picture};
+
+fn bytes_of(letter: char) -> Vec<u8> {
+    write(&case(letter))
+}
+
+pub fn evidence_of(picture: &[u8]) -> Vec<u8> {
+    let mut buffer = vec![0xEE; 30000];
+    let length = choose(picture, &mut buffer).expect("an accepted picture");
+    assert!(buffer[length..].iter().all(|byte| *byte == 0xEE));
+    buffer.truncate(length);
+    buffer
+}
+
+/// Served weight and, unless the verdict is "none", block and loss.
+pub fn choice_of(picture: &[u8]) -> (u32, Option<(u8, u32)>) {
+    let head = evidence_of(picture);
+    let number = |bytes: &[u8]| bytes.iter().fold(0, |sum, byte| sum * 256 + u32::from(*byte));
+    let chosen = (head[0] == 0x11).then(|| (head[1], number(&head[6..9])));
+    (number(&head[3..6]), chosen)
+}
+
+#[test]
+fn case_a_is_read_and_written() {
+    assert_eq!(read(&A_BYTES), Ok(case_a()));
+    assert_eq!(write(&case_a()), A_BYTES);
+}
+
+#[test]
+fn case_a_has_the_printed_evidence() {
+    assert_eq!(evidence_of(&A_BYTES), A_EVIDENCE);
+    assert_eq!(check(&A_BYTES, &A_EVIDENCE), Ok(()));
+    assert_eq!(weigh(&A_BYTES, 0), Ok((42, 30, 1)));
+    assert_eq!(weigh(&A_BYTES, 1), Ok((42, 12, 0)));
+}
+
+#[test]
+fn every_example_has_its_choice() {
+    let expected = [
+        ('A', 42, Some((1, 12))),
+        ('B', 42, Some((1, 12))),
+        ('C', 42, None),
+        ('D', 60, Some((0, 30))),
+        ('E', 42, None),
+        ('F', 30, Some((1, 0))),
+        ('G', 0, None),
+        ('H', 42, Some((1, 12))),
+        ('I', 42, Some((1, 12))),
+        ('J', 12, Some((1, 12))),
+        ('K', 30, None),
+        ('M', 0, Some((0, 0))),
+    ];
+    assert_eq!(expected.len(), all().len());
+    for (letter, served, chosen) in expected {
+        let picture = bytes_of(letter);
+        assert_eq!(choice_of(&picture), (served, chosen), "case {letter}");
+        assert_eq!(read(&picture), Ok(case(letter)), "case {letter}");
+        assert_eq!(check(&picture, &evidence_of(&picture)), Ok(()), "case {letter}");
+    }
+}
+
+#[test]
+fn examples_keep_their_further_statements() {
+    assert_eq!(evidence_of(&bytes_of('E')).len(), 17);
+    assert_eq!(evidence_of(&bytes_of('H')), A_EVIDENCE);
+    let cycle = evidence_of(&bytes_of('I'));
+    assert_eq!(cycle[9..17], [0, 0, 0, 1, 0, 0, 0, 1]);
+    assert_eq!(weigh(&bytes_of('I'), 0), Ok((42, 30, 1)));
+    let mut evicted = A_BYTES;
+    assert_eq!(evict(&mut evicted, 1), Ok(()));
+    assert_eq!(evicted[7..9], [0x25, 0xB0]);
+    assert_eq!(evicted, *bytes_of('K'));
+}
+
+#[test]
+fn numbers_1_to_7_by_example() {
+    let changed = |place: usize, value: u8| {
+        let mut bytes = A_BYTES.to_vec();
+        bytes[place] = value;
+        bytes
+    };
+    let link_to_5 = write(&Picture { links: vec![(0, 1), (0, 2), (1, 3), (0, 5)], ..case_a() });
+    let spare_byte = [&A_BYTES[..], &[0]].concat();
+    let examples = [
+        (fault::SHORT, Vec::new()),
+        (fault::EDITION, changed(0, 0x22)),
+        (fault::BLOCKS, changed(0, 0x13)),
+        (fault::COUNTS, changed(3, 201)),
+        (fault::STATE, changed(7, 0xE4)),
+        (fault::LINK, link_to_5),
+        (fault::FILL, spare_byte),
+    ];
+    for (number, picture) in examples {
+        let mut kept = picture.clone();
+        let mut buffer = [0xEE; 43];
+        assert_eq!(read(&picture), Err(number));
+        assert_eq!(weigh(&picture, 0), Err(number));
+        assert_eq!(choose(&picture, &mut buffer), Err(number));
+        assert_eq!(check(&picture, &A_EVIDENCE), Err(number));
+        assert_eq!(evict(&mut kept, 0), Err(number));
+        assert_eq!(reload(&mut kept, 0), Err(number));
+        assert_eq!(free(&mut kept, 0), Err(number));
+        assert!(show(&picture, &A_EVIDENCE).is_empty());
+        assert_eq!((kept, buffer), (picture, [0xEE; 43]));
+    }
+}
+
+#[test]
+fn numbers_8_to_12_by_example() {
+    assert_eq!(weigh(&A_BYTES, 2), Err(fault::BLOCK));
+    let mut buffer = [0xEE; 42];
+    assert_eq!(choose(&A_BYTES, &mut buffer), Err(fault::BUFFER));
+    assert_eq!(buffer, [0xEE; 42]);
+    let mut picture = A_BYTES;
+    assert_eq!(evict(&mut picture, 0), Err(fault::PROTECTED));
+    assert_eq!(free(&mut picture, 0), Err(fault::PROTECTED));
+    assert_eq!(reload(&mut picture, 0), Err(fault::NOTHING));
+    assert_eq!(picture, A_BYTES);
+    let mut evicted = bytes_of('K');
+    assert_eq!(reload(&mut evicted, 1), Err(fault::NEAR_LIMIT));
+    assert_eq!(evicted, bytes_of('K'));
+}
+
+#[test]
+fn numbers_13_to_16_by_example() {
+    let changed = |place: usize, value: u8| {
+        let mut bytes = A_EVIDENCE;
+        bytes[place] = value;
+        bytes
+    };
+    assert_eq!(check(&A_BYTES, &[]), Err(fault::SHAPE));
+    assert_eq!(check(&A_BYTES, &changed(16, 2)), Err(fault::FOREST));
+    assert_eq!(check(&A_BYTES, &changed(20, 29)), Err(fault::SUM));
+    assert_eq!(check(&A_BYTES, &changed(0, 0x10)), Err(fault::VERDICT));
+}
+
+#[test]
+fn limits_are_those_of_the_document() {
+    let header = |block_size: u8, slots: u8, endpoints: u8| {
+        let bits = 3 * usize::from(slots) + 17 * usize::from(endpoints);
+        let mut bytes = vec![0x10 | block_size, slots, 0, endpoints, 0, 0, 0];
+        bytes.resize(7 + bits.div_ceil(8), 0);
+        read(&bytes).map(|_| ())
+    };
+    assert_eq!(header(1, 60, 200), Ok(()));
+    assert_eq!(header(8, 240, 0), Ok(()));
+    assert_eq!(header(1, 61, 0), Err(fault::BLOCKS));
+    assert_eq!(header(9, 9, 0), Err(fault::BLOCKS));
+    assert_eq!(header(0, 4, 0), Err(fault::BLOCKS));
+    assert_eq!(header(1, 0, 0), Err(fault::BLOCKS));
+    assert_eq!(header(1, 60, 201), Err(fault::COUNTS));
+    assert_eq!(evidence_bytes(240, 60), 29589);
+}
+
+#[test]
+fn serving_without_endpoints_is_refused() {
+    let picture = Picture { endpoints: Vec::new(), ..case_a() };
+    assert_eq!(read(&write(&picture)), Err(fault::LINK));
+}
+
+#[test]
+fn acts_change_the_named_states_only() {
+    let mut picture = Picture { near_limit: 4, ..case('K') };
+    picture.slots[3].state = State::Freed;
+    let mut bytes = write(&picture);
+    assert_eq!(reload(&mut bytes, 1), Ok(()));
+    picture.slots[2].state = State::Held;
+    assert_eq!(read(&bytes), Ok(picture.clone()));
+    assert_eq!(free(&mut bytes, 1), Ok(()));
+    picture.slots[2].state = State::Freed;
+    assert_eq!(read(&bytes), Ok(picture));
+    assert_eq!(free(&mut bytes, 1), Err(fault::NOTHING));
+}
+
+#[test]
+fn far_slots_are_reloaded_over_the_near_limit() {
+    let mut picture = Picture { near_limit: 0, ..case('K') };
+    picture.slots[2].near = false;
+    picture.slots[3].near = false;
+    assert_eq!(reload(&mut write(&picture), 1), Ok(()));
+}
+
+#[test]
+fn a_slot_of_depth_0_is_no_parent() {
+    // Only the cycle 1-3-1: slot 3 hangs on slot 1, which is not reached.
+    let mut evidence = evidence_of(&bytes_of('I'));
+    evidence[13..15].copy_from_slice(&[1, 1]);
+    assert_eq!(check(&bytes_of('I'), &evidence), Err(fault::FOREST));
+}
+
+#[test]
+fn shape_comes_before_every_forest() {
+    let mut evidence = A_EVIDENCE;
+    evidence[16] = 2;
+    evidence[34] = 2;
+    assert_eq!(check(&A_BYTES, &evidence), Err(fault::SHAPE));
+}
+
+#[test]
+fn show_gives_the_chosen_section() {
+    assert_eq!(show(&A_BYTES, &A_EVIDENCE), &A_EVIDENCE[30..43]);
+    let none = evidence_of(&bytes_of('C'));
+    assert_eq!(show(&bytes_of('C'), &none).as_ptr_range(), none[..0].as_ptr_range());
+}
