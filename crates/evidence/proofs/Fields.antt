@@ -1,0 +1,197 @@
+-- The fields of a picture's evidence: what they take, that each value fits its width, and so how long the evidence is. Assumes nothing.
+use mathlib.Core.Path.{_≡_, refl, sym, ap, _∙_}
+use mathlib.Core.Bool.{Bool}
+use mathlib.Core.Logic.{⊎-elim}
+use mathlib.Core.List.{List, [], _∷_, _++_, map}
+use Prim.Native.Nat.{ℕ, zero, suc, _+_, _*_, _^_, _≤_, _<_}
+use native.Mathlib.Omega.{arith}
+use native.Mathlib.Nat.{mul-assoc, not-suc-le-zero}
+use lib.ListN.{length, getD, length-map}
+use Rattle.lists.specs.Lists.{range, sum, flat}
+use Rattle.lists.proofs.Filters.{length-filter-le}
+use Rattle.lists.proofs.Ranges.{length-range}
+use Rattle.packing.specs.Packing.{Field}
+use Rattle.packing.specs.Holding.{span, Fit}
+use Rattle.packing.proofs.Fields.{span-append, fit-append, fit-flat, span-flat}
+use Rattle.packing.proofs.Packed.{length-packed}
+use Rattle.graph.specs.Rounds.{Node, forest}
+use Rattle.graph.proofs.Nodes.{length-forest, forest-at, parent-le, depth-le}
+use Rattle.picture.specs.Layout.{Edition, edition1, editionOf}
+use Rattle.picture.specs.Picture.{Picture, headerOf, pictureOf}
+use Rattle.picture.specs.Faults.{pictureFault}
+use Rattle.picture.specs.Answers.{Read}
+use Rattle.picture.proofs.Accepted.{accepted-kept}
+use Rattle.network.specs.Words.{slotCount, blockCount, isHeld, heldWithout, joins}
+use Rattle.network.specs.Tests.{Weighed, weighed, servedWeight, isCandidate, candidates}
+use Rattle.network.proofs.Named.{slots-counted}
+use Rattle.network.proofs.Weights.{mark-le, weighed-block, weights-small}
+use Rattle.network.proofs.Candidates.{candidates-below}
+use Rattle.weigh.proofs.Blocks.{read-blocks}
+use Rattle.evidence.specs.Layout.{headWidths, nodeWidths, sectionWidths, forestBits, sectionBits, sectionAt, evidenceBytes}
+use Rattle.evidence.specs.Canonical.{Choice, weighings, least, fieldsOf, headFields, nodeFields, forestFields, forestOf, sectionFields, evidenceFields, evidenceOf}
+use Rattle.evidence.specs.Calls.{lengthFor}
+use Rattle.evidence.proofs.Picked.{unweighed, least-picked}
+
+-- a node that no list has, for a place past its end
+abbrev pub noNode : Node
+noNode = record { parent = 0; depth = 0 }
+
+-- ---- what the fields take
+
+pub length-forest-of : (p : Picture) (held : ℕ → Bool) → length (forestOf p held) ≡ slotCount p
+unfolding forestOf
+length-forest-of p held = length-forest (joins (p .links)) held (slotCount p)
+
+module _ (e : Edition) where
+  pub node-span : (x : Node) → span (nodeFields e x) ≡ sum (nodeWidths e)
+  unfolding span nodeFields fieldsOf nodeWidths sum
+  node-span x = refl
+
+  pub head-span : (c : Choice) (count served : ℕ) → span (headFields e c count served) ≡ sum headWidths
+  unfolding span headFields fieldsOf headWidths sum
+  head-span c count served = refl
+
+  module _ (p : Picture) where
+    pub forest-span : (held : ℕ → Bool) → span (forestFields e (forestOf p held)) ≡ forestBits e (slotCount p)
+    unfolding forestFields forestBits
+    forest-span held = span-flat (nodeFields e) (sum (nodeWidths e)) node-span (forestOf p held) ∙ rw (length-forest-of p held)
+
+    pub section-span : (w : Weighed) → span (sectionFields e p w) ≡ sectionBits e (slotCount p)
+    unfolding sectionFields sectionBits
+    section-span w =
+        span-append (fieldsOf sectionWidths (w .block ∷ w .loss ∷ w .mark ∷ [])) (forestFields e (forestOf p (heldWithout p (w .block))))
+        ∙ ap (λ (n : ℕ). span (fieldsOf sectionWidths (w .block ∷ w .loss ∷ w .mark ∷ [])) + n) (forest-span (heldWithout p (w .block))) ∙ unfold span fieldsOf sectionWidths sum in refl
+
+-- ---- the weighings
+
+pub length-weighings : (p : Picture) → length (weighings p) ≡ length (candidates p)
+unfolding weighings
+length-weighings p = length-map (candidates p) (weighed p)
+
+map-at : {A B : Type 0} (f : A → B) (d : B) (z : A) (l : List A) (i : ℕ) → i < length l → getD (map f l) i d ≡ f (getD l i z)
+map-at f d z [] i h = absurd (not-suc-le-zero h)
+map-at f d z (x ∷ l) zero h = refl
+map-at f d z (x ∷ l) (suc i) h = map-at f d z l i (omega arith)
+
+-- the i-th is that of the i-th candidate
+pub weighing-at : (p : Picture) (i : ℕ) → i < length (candidates p) → getD (weighings p) i unweighed ≡ weighed p (getD (candidates p) i 0)
+unfolding weighings
+weighing-at p i h = map-at (weighed p) unweighed 0 (candidates p) i h
+
+-- ---- the whole
+
+module _ (e : Edition) (p : Picture) where
+  -- its three parts: the head, the first forest's nodes, and the sections
+  abbrev pub head-of : List Field
+  head-of = headFields e (least (weighings p)) (length (weighings p)) (servedWeight p)
+
+  abbrev pub nodes-of : List Field
+  nodes-of = forestFields e (forestOf p (isHeld p))
+
+  abbrev pub sections-of : List Field
+  sections-of = flat (map (sectionFields e p) (weighings p))
+
+  pub span-evidence : span (evidenceFields e p) ≡ sectionAt e (slotCount p) (length (candidates p))
+  unfolding evidenceFields sectionAt
+  span-evidence =
+      span-append head-of (nodes-of ++ sections-of)
+      ∙ omega (
+        arith,
+        span-append nodes-of sections-of,
+        head-span e (least (weighings p)) (length (weighings p)) (servedWeight p),
+        forest-span e p (isHeld p),
+        span-flat (sectionFields e p) (sectionBits e (slotCount p)) (section-span e p) (weighings p) ∙ ap (λ (c : ℕ). c * sectionBits e (slotCount p)) (length-weighings p),
+      )
+
+-- ---- each value fits its width
+
+pub forest-fits : (e : Edition) (p : Picture) → slotCount p < 2 ^ e .locationBits → (held : ℕ → Bool) → Fit (forestFields e (forestOf p held))
+unfolding forestFields forestOf nodeFields nodeWidths fieldsOf Fit
+forest-fits e p room held =
+    let j = joins (p .links) in
+    let n = slotCount p in
+    fit-flat noNode (nodeFields e) (forest j held n)
+    (λ i s. rw (forest-at j held n noNode i (omega (arith, length-forest j held n))) (omega (arith, parent-le j held n (suc i)), (omega (arith, depth-le j held n (suc i)), tt)))
+
+module _ (bs : List ℕ) (z : pictureFault bs ≡ 0) where
+  abbrev p : Picture
+  p = pictureOf bs
+
+  abbrev read : Read bs (headerOf bs)
+  read = record { accepted = z; header = refl }
+
+  -- n is below 256, so that a location fits
+  pub slots-small : slotCount (pictureOf bs) ≤ 240
+  slots-small = omega (arith, slots-counted bs, accepted-kept bs z .sizes .slots-most)
+
+  pub blocks-small : blockCount (pictureOf bs) ≤ 60
+  blocks-small = omega (arith, read-blocks bs (headerOf bs) read, accepted-kept bs z .sizes .blocks-most)
+
+  pub candidates-few : length (candidates (pictureOf bs)) ≤ 60
+  unfolding candidates
+  candidates-few = omega (arith, length-filter-le (isCandidate p) (range 0 (blockCount p)), length-range 0 (blockCount p), blocks-small)
+
+  pub served-small : servedWeight (pictureOf bs) < 2 ^ 24
+  unfolding servedWeight
+  served-small = weights-small bs z _
+
+  pub loss-small : (b : ℕ) → weighed (pictureOf bs) b .loss < 2 ^ 24
+  unfolding weighed
+  loss-small b = weights-small bs z _
+
+  -- of the weighing at a place
+  block-at : (i : ℕ) → i < length (weighings p) → getD (weighings p) i unweighed .block < 60
+  block-at i h =
+      let s : i < length (candidates p) = omega (arith, length-weighings p) in
+      rw (weighing-at p i s, weighed-block p (getD (candidates p) i 0)) (omega (arith, candidates-below p i s, blocks-small))
+
+  loss-at : (i : ℕ) → i < length (weighings p) → getD (weighings p) i unweighed .loss < 2 ^ 24
+  loss-at i h = rw (weighing-at p i (omega (arith, length-weighings p))) (loss-small _)
+
+  mark-at : (i : ℕ) → i < length (weighings p) → getD (weighings p) i unweighed .mark ≤ 1
+  mark-at i h = rw (weighing-at p i (omega (arith, length-weighings p))) (mark-le p _)
+
+  -- the choice is one of the weighings, or 0, 0 and 0
+  pub choice-fits : (least (weighings (pictureOf bs)) .verdict ≤ 1) × (least (weighings (pictureOf bs)) .block < 60) × (least (weighings (pictureOf bs)) .loss < 2 ^ 24)
+  choice-fits = ⊎-elim
+      (λ r. (omega (arith, r .verdict), omega (arith, r .block, block-at (r .at) (r .within)), rw (r .loss) (loss-at (r .at) (r .within))))
+      (λ r. (omega (arith, r .verdict), omega (arith, r .block), omega (arith, r .loss)))
+      (least-picked (weighings p))
+
+  head-fits : Fit (head-of edition1 p)
+  unfolding headFields headWidths fieldsOf Fit
+  head-fits =
+      let c = choice-fits in
+      (omega arith, (omega arith, (omega arith, (omega (arith, length-weighings p, candidates-few), (served-small, (c .2, tt))))))
+
+  section-fits : (i : ℕ) → i < length (weighings p) → Fit (sectionFields edition1 p (getD (weighings p) i unweighed))
+  unfolding sectionFields sectionWidths fieldsOf Fit
+  section-fits i h =
+      (omega (arith, block-at i h), (loss-at i h, (omega (arith, mark-at i h), forest-fits edition1 p (omega (arith, slots-small)) _)))
+
+  pub evidence-fits : Fit (evidenceFields (editionOf bs) (pictureOf bs))
+  unfolding evidenceFields
+  evidence-fits =
+      fit-append (head-of edition1 p) (nodes-of edition1 p ++ sections-of edition1 p) head-fits
+      (fit-append (nodes-of edition1 p) (sections-of edition1 p) (forest-fits edition1 p (omega (arith, slots-small)) (isHeld p))
+      (fit-flat unweighed (sectionFields edition1 p) (weighings p) section-fits))
+
+-- ---- how long the evidence is
+
+-- every part takes whole bytes
+pub whole-bytes : (n c : ℕ) → sectionAt edition1 n c ≡ 8 * evidenceBytes edition1 n c
+unfolding sectionAt evidenceBytes sectionBits forestBits headWidths nodeWidths sectionWidths sum
+whole-bytes n c =
+    let e : c * (40 + n * 16) ≡ c * (5 + n * 2) * 8 = ap (λ (x : ℕ). c * x) (eights n) ∙ sym (mul-assoc c (5 + n * 2) 8) in
+    omega arith
+  where
+    eights : (n : ℕ) → 40 + n * 16 ≡ (5 + n * 2) * 8
+    eights n = omega arith
+
+pub span-bytes : (bs : List ℕ) → span (evidenceFields (editionOf bs) (pictureOf bs)) ≡ 8 * lengthFor bs
+unfolding lengthFor
+span-bytes bs = span-evidence edition1 (pictureOf bs) ∙ whole-bytes (slotCount (pictureOf bs)) (length (candidates (pictureOf bs)))
+
+pub length-evidence : (bs : List ℕ) → length (evidenceOf bs) ≡ evidenceBytes (editionOf bs) (slotCount (pictureOf bs)) (length (candidates (pictureOf bs)))
+unfolding evidenceOf lengthFor
+length-evidence bs = length-packed (evidenceFields edition1 (pictureOf bs)) ∙ omega (arith, span-bytes bs)
