@@ -28,7 +28,8 @@ use Rattle.evidence.specs.Checks.{headIn, sectionIn, firstForest, forest
 use Rattle.evidence.proofs.Picked.{unweighed, least-picked}
 use Rattle.evidence.proofs.Fields.{length-weighings, weighing-at, choice-fits, length-evidence}
 use Rattle.evidence.proofs.Held.{Reads, evidence-reads}
-use Rattle.evidence.proofs.Rightness.{range-all, kept-right}
+use Rattle.lists.proofs.Every.{range-all}
+use Rattle.evidence.proofs.Forests.{kept-right}
 
 -- a test that passes tells no fault
 passed : (b : Bool) (k : ℕ) (l : List ℕ) → T b → first (on (not b) k ∷ l) ≡ first l

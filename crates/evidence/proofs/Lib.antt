@@ -1,7 +1,13 @@
--- Laws of evidence: its fields, what is read back of them, and that a picture's own evidence passes.
+-- Laws of evidence: its tests say what its rules say, a picture's own evidence passes, and every evidence that passes has one verdict.
 pub mod Picked
 pub mod Fields
 pub mod Held
 pub mod Written
-pub mod Rightness
+pub mod Forests
+pub mod Weighings
+pub mod Choosing
+pub mod Judging
+pub mod Passing
+pub mod Unique
+pub mod Judged
 pub mod Canonical

@@ -1,12 +1,14 @@
 -- The rules of evidence as propositions, in the order of document 01. Assumes nothing.
-use mathlib.Core.List.{List}
+use mathlib.Core.List.{List, [], _∷_, _++_}
 use mathlib.Core.Path.{_≡_}
-use Prim.Native.Nat.{ℕ, _≤_, _<_}
+use Prim.Native.Nat.{ℕ, zero, suc, _≤_, _<_}
 use lib.ListN.{length, getD}
+use Rattle.lists.specs.Rules.{Rule}
 use Rattle.graph.specs.Kept.{ForestKept}
 use Rattle.picture.specs.Layout.{Edition, editionOf}
 use Rattle.picture.specs.Picture.{Picture, pictureOf}
 use Rattle.picture.specs.Faults.{pictureFault}
+use Rattle.picture.specs.Rules.{rules}
 use Rattle.network.specs.Words.{slotCount, isHeld, heldWithout, joins, ServedWeight, Loss, CutsProtected, Candidate, Admissible}
 use Rattle.network.specs.Tests.{candidates}
 use Rattle.evidence.specs.Layout.{evidenceBytes}
@@ -21,12 +23,19 @@ pub record Form (e : Edition) (p : Picture) (ev : List ℕ) : Type 0 where
   pub blocks : (i : ℕ) → i < length (candidates p) → sectionIn e (slotCount p) ev i 0 ≡ getD (candidates p) i 0
   pub marks : (i : ℕ) → i < length (candidates p) → sectionIn e (slotCount p) ev i 2 ≤ 1
 
--- 14 and 15 of the section of block b: its forest keeps the rules with that block evicted, and its loss and mark are those by chains
-pub record Section (e : Edition) (p : Picture) (ev : List ℕ) (i b : ℕ) : Type 0 where
-  pub forest : ForestKept (joins (p .links)) (heldWithout p b) (slotCount p) (sectionForest e (slotCount p) ev i)
+-- 14 of the section of block b: its forest keeps the rules with that block evicted
+abbrev pub SectionForest : Edition → Picture → List ℕ → ℕ → ℕ → Type 0
+SectionForest e p ev i b = ForestKept (joins (p .links)) (heldWithout p b) (slotCount p) (sectionForest e (slotCount p) ev i)
+
+-- 15 of the section of block b: its loss and mark are those by chains
+pub record Numbers (e : Edition) (p : Picture) (ev : List ℕ) (i b : ℕ) : Type 0 where
   pub loss : Loss p b (sectionIn e (slotCount p) ev i 1)
   pub marked : sectionIn e (slotCount p) ev i 2 ≡ 1 → CutsProtected p b
   pub unmarked : CutsProtected p b → sectionIn e (slotCount p) ev i 2 ≡ 1
+
+pub record Section (e : Edition) (p : Picture) (ev : List ℕ) (i b : ℕ) : Type 0 where
+  pub forest : SectionForest e p ev i b
+  pub numbers : Numbers e p ev i b
 
 -- 16 where a block is named: a candidate that cuts no protected endpoint, with its loss, and none such loses less
 pub record Named (p : Picture) (block loss : ℕ) : Type 0 where
@@ -40,7 +49,30 @@ pub data Verdict (p : Picture) : ℕ → ℕ → ℕ → Type 0 where
   chosen : {block loss : ℕ} → Named p block loss → Verdict p 1 block loss
   none : ((b : ℕ) → Candidate p b → CutsProtected p b) → Verdict p 0 0 0
 
--- evidence that passes for a picture
+-- ---- the rules with their numbers, in the order in which they are judged: "picture, 13, first forest 14, served weight 15, then per
+-- candidate 14 and 15, then 16"
+
+module _ (e : Edition) (p : Picture) (ev : List ℕ) where
+  -- those of the k sections from section i on
+  unfoldable pub sectionRules : ℕ → ℕ → List Rule
+  sectionRules i zero = []
+  sectionRules i (suc k) =
+      record { number = 14; holds = SectionForest e p ev i (getD (candidates p) i 0) }
+      ∷ record { number = 15; holds = Numbers e p ev i (getD (candidates p) i 0) }
+      ∷ sectionRules (suc i) k
+
+  unfoldable pub evidenceRulesWith : List Rule
+  evidenceRulesWith =
+      record { number = 13; holds = Form e p ev }
+      ∷ record { number = 14; holds = ForestKept (joins (p .links)) (isHeld p) (slotCount p) (firstForest e (slotCount p) ev) }
+      ∷ record { number = 15; holds = ServedWeight p (isHeld p) (headIn ev 4) }
+      ∷ (sectionRules 0 (length (candidates p)) ++ (record { number = 16; holds = Verdict p (headIn ev 1) (headIn ev 2) (headIn ev 5) } ∷ []))
+
+-- the picture's, and then those of the evidence
+unfoldable pub checkRules : List ℕ → List ℕ → List Rule
+checkRules bs ev = rules bs ++ evidenceRulesWith (editionOf bs) (pictureOf bs) ev
+
+-- ---- evidence that passes for a picture
 pub record Passes (bs ev : List ℕ) : Type 0 where
   pub accepted : pictureFault bs ≡ 0
   pub form : Form (editionOf bs) (pictureOf bs) ev

@@ -9,3 +9,4 @@ pub mod Sums
 pub mod Prefixes
 pub mod Picks
 pub mod Ends
+pub mod Every

@@ -74,7 +74,7 @@ module _ (bs : List ℕ) where
       (judge-right _ _ (endRight e h bs) _ (λ z. absurd (omega arith)) (right-ends e h bs (rounded h .room)) (ends-right e h bs (rounded h .room)) judge-none))))))))
 
   -- no number of the layout is 0
-  numbered : Numbered (rules bs)
+  pub numbered : Numbered (rules bs)
   unfolding rules rulesWith
   numbered = (
     λ z. absurd (omega arith),

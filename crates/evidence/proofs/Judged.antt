@@ -1,0 +1,84 @@
+-- The number that a check answers is that of the first rule that is broken, in the order of document 01: picture, 13, first forest 14,
+-- served weight 15, then 14 and 15 of each section, then 16. Assumes nothing.
+use mathlib.Core.Path.{_≡_, refl, sym, subst}
+use mathlib.Core.Bool.{Bool, true, false, not}
+use mathlib.Core.Logic.{_≢_}
+use mathlib.Core.List.{List, [], _∷_, _++_, map}
+use Prim.Native.Nat.{ℕ, zero, suc, _+_, _≤_, _<_}
+use native.Mathlib.Omega.{arith}
+use lib.Dec.{T, eqb, eqb→eq}
+use lib.ListN.{length, getD}
+use Rattle.lists.specs.Lists.{range, on, first}
+use Rattle.lists.specs.Rules.{Rule, Judged, kept, broken, passed}
+use Rattle.lists.proofs.Tests.{eq-T}
+use Rattle.lists.proofs.Faults.{first-stop, judge-none, Numbered}
+use Rattle.picture.specs.Layout.{Edition, editionOf}
+use Rattle.picture.specs.Picture.{Picture, pictureOf}
+use Rattle.picture.proofs.Accepted.{judged, numbered}
+use Rattle.network.specs.Words.{slotCount, isHeld, heldWithout, joins, ServedWeight}
+use Rattle.network.specs.Tests.{Weighed, weighed, servedWeight, candidates}
+use Rattle.network.proofs.Named.{Named, accepted-named}
+use Rattle.evidence.specs.Canonical.{weighings}
+use Rattle.evidence.specs.Checks.{headIn, sectionIn, firstForest, sectionForest, forestRight, formRight, sectionFault, verdictRight, checkFault}
+use Rattle.evidence.specs.Rules.{sectionRules, evidenceRulesWith, checkRules}
+use Rattle.evidence.proofs.Forests.{right-kept, kept-right}
+use Rattle.evidence.proofs.Weighings.{weighings-length, weighing-at, candidate-below}
+use Rattle.evidence.proofs.Judging.{forestTest, numbersTest, test-numbers, numbers-test, right-form, form-right, right-served, served-right, right-numbers, numbers-right, right-verdict, verdict-right}
+
+-- ---- rules of which the later ones are judged where the earlier ones hold
+
+right-then : (r : Rule) (rs : List Rule) (b : Bool) (l : List ℕ) → r .number ≢ 0 → (T b → r .holds) → (r .holds → T b) → (r .holds → Judged rs (first l)) → Judged (r ∷ rs) (first (on (not b) (r .number) ∷ l))
+unfolding on first
+right-then r rs true l nz y n j = passed (y tt) (j (y tt))
+right-then r rs false l nz y n j = subst (Judged (r ∷ rs)) (sym (first-stop (r .number) l nz)) (broken n)
+
+judged-then : {rs ss : List Rule} {k : ℕ} (l : List ℕ) → Judged rs k → Numbered rs → (k ≡ 0 → Judged ss (first l)) → Judged (rs ++ ss) (first (k ∷ l))
+unfolding first
+judged-then l kept m j = j refl
+judged-then {ss = ss} l (broken {r = r} {rs = rs} b) m j = subst (Judged (r ∷ (rs ++ ss))) (sym (first-stop (r .number) l (m .0))) (broken b)
+judged-then l (passed h q) m j = passed h (judged-then l q (m .1) j)
+
+-- ---- the sections
+
+module _ {p : Picture} (n : Named p) (e : Edition) (ev : List ℕ) (marks : (i : ℕ) → i < length (candidates p) → sectionIn e (slotCount p) ev i 2 ≤ 1) where
+  section-judged : (i : ℕ) → i < length (candidates p) → Judged (sectionRules e p ev i 1) (sectionFault e p ev (weighings p) i)
+  unfolding sectionRules sectionFault forestTest numbersTest weighed
+  section-judged i h =
+      let b = getD (candidates p) i 0 in
+      let w = weighed p b in
+      subst (λ (x : Weighed). Judged (sectionRules e p ev i 1) (first (on (not (forestTest e p ev i x)) 14 ∷ on (not (numbersTest e p ev i x)) 15 ∷ []))) (sym (weighing-at p i h))
+      (right-then _ _ (forestTest e p ev i w) _ (λ z. absurd (omega arith)) (right-kept p _ _) (kept-right p _ _)
+      (λ _. right-then _ _ (numbersTest e p ev i w) [] (λ z. absurd (omega arith))
+      (λ t. let s = test-numbers e p ev i w t in right-numbers n e ev i b (s .0) (s .1))
+      (λ r. let s = numbers-right n e ev i b (marks i h) r in numbers-test e p ev i w (s .0) (s .1))
+      (λ _. judge-none)))
+
+  sections-judged : (i k : ℕ) → i + k ≤ length (candidates p) → Judged (sectionRules e p ev i k) (first (map (sectionFault e p ev (weighings p)) (range i k)))
+  unfolding sectionRules range
+  sections-judged i zero h = judge-none
+  sections-judged i (suc k) h =
+      judged-then _ (section-judged i (omega arith)) (λ z. absurd (omega arith), (λ z. absurd (omega arith), tt)) (λ _. sections-judged (suc i) k (omega arith))
+
+  every-judged : Judged (sectionRules e p ev 0 (length (candidates p))) (first (map (sectionFault e p ev (weighings p)) (range 0 (length (weighings p)))))
+  every-judged = rw weighings-length (sections-judged 0 (length (candidates p)) (omega arith))
+
+sections-numbered : (e : Edition) (p : Picture) (ev : List ℕ) (i k : ℕ) → Numbered (sectionRules e p ev i k)
+unfolding sectionRules
+sections-numbered e p ev i zero = tt
+sections-numbered e p ev i (suc k) = (λ z. absurd (omega arith), (λ z. absurd (omega arith), sections-numbered e p ev (suc i) k))
+
+-- ---- the check
+
+pub check-judged : (bs ev : List ℕ) → Judged (checkRules bs ev) (checkFault bs ev)
+unfolding checkRules evidenceRulesWith checkFault
+check-judged bs ev =
+    judged-then _ (judged bs) (numbered bs)
+    (λ z.
+    let e = editionOf bs in
+    let p = pictureOf bs in
+    let n = accepted-named bs z in
+    right-then _ _ (formRight e p ev) _ (λ z. absurd (omega arith)) (right-form e p ev) (form-right e p ev)
+    (λ f. right-then _ _ (forestRight p (isHeld p) (firstForest e (slotCount p) ev)) _ (λ z. absurd (omega arith)) (right-kept p _ _) (kept-right p _ _)
+    (λ _. right-then _ _ (eqb (headIn ev 4) (servedWeight p)) _ (λ z. absurd (omega arith)) (λ t. right-served n _ (eqb→eq _ _ t)) (λ s. eq-T _ _ (served-right n _ s))
+    (λ _. judged-then _ (every-judged n e ev (f .marks)) (sections-numbered e p ev 0 (length (candidates p)))
+    (λ _. right-then _ _ (verdictRight ev (weighings p)) [] (λ z. absurd (omega arith)) (right-verdict n (candidate-below bs z) ev) (verdict-right n (candidate-below bs z) ev) (λ _. judge-none))))))

@@ -1,0 +1,220 @@
+-- The tests of evidence say what its rules say: its form, a section, the served weight and the verdict. Assumes nothing.
+use mathlib.Core.Path.{_≡_, refl, sym, _∙_, subst}
+use mathlib.Core.Bool.{Bool, true, false, not, _&&_, cond}
+use mathlib.Core.Logic.{_≢_, ⊎-elim, by-cases}
+use mathlib.Core.List.{List, [], _∷_}
+use Prim.Native.Nat.{ℕ, _≤_, _<_, zero-le}
+use native.Mathlib.Omega.{arith}
+use native.Mathlib.Decide.{ℕ-discrete}
+use borrow.Author.Tests.{eq-eqb, ne-eqb, le-leb}
+use lib.Dec.{T, eqb, leb, eqb→eq, leb→le}
+use lib.ListN.{length, getD}
+use Rattle.lists.specs.Lists.{range, on, first, all, any}
+use Rattle.lists.proofs.Tests.{and-T, T-and, eq-T, any-at, at-any}
+use Rattle.lists.proofs.Sums.{total-one}
+use Rattle.graph.specs.Kept.{ForestKept}
+use Rattle.picture.specs.Layout.{Edition}
+use Rattle.picture.specs.Picture.{Picture}
+use Rattle.network.specs.Words.{slotCount, blockCount, isHeld, heldWithout, joins, ServedWeight, Loss, CutsProtected, Candidate}
+use Rattle.network.specs.Tests.{Weighed, weighed, servedWeight, candidates}
+use Rattle.network.proofs.Named.{Named}
+use Rattle.network.proofs.Weights.{served-weight, loss-weight, mark-protected, protected-mark, mark-le, weighed-block}
+use Rattle.evidence.specs.Layout.{evidenceBytes}
+use Rattle.evidence.specs.Canonical.{Choice, least, weighings}
+use Rattle.evidence.specs.Checks.{headIn, sectionIn, sectionForest, forestRight, formRight, sectionFault, verdictRight}
+use Rattle.evidence.specs.Rules.{Form, Numbers, Section, Verdict, chosen, none}
+use Rattle.lists.proofs.Every.{all-range, range-all}
+use Rattle.evidence.proofs.Forests.{right-kept, kept-right}
+use Rattle.evidence.proofs.Weighings.{at-place}
+use Rattle.evidence.proofs.Choosing.{Chosen, Nothing, least-right, least-none, none-least, least-loss, least-best, best-least, marked-cut, cut-marked}
+
+-- ---- 13: the form
+
+module _ (e : Edition) (p : Picture) (ev : List ℕ) where
+  -- what is asked of a section
+  sectionForm : ℕ → Bool
+  sectionForm i = eqb (sectionIn e (slotCount p) ev i 0) (getD (candidates p) i 0) && leb (sectionIn e (slotCount p) ev i 2) 1
+
+  pub right-form : T (formRight e p ev) → Form e p ev
+  unfolding formRight sectionForm
+  right-form t =
+      let cs = candidates p in
+      let t1 = and-T (eqb (length ev) (evidenceBytes e (slotCount p) (length cs))) _ t in
+      let t2 = and-T (eqb (headIn ev 0) (e .number)) _ (t1 .1) in
+      let t3 = and-T (leb (headIn ev 1) 1) _ (t2 .1) in
+      let t4 = and-T (eqb (headIn ev 3) (length cs)) (all sectionForm (range 0 (length cs))) (t3 .1) in
+      let each : (i : ℕ) → i < length cs → T (sectionForm i) = λ i h. all-range sectionForm 0 (length cs) (t4 .1) i zero-le (omega arith) in
+      record {
+        size = eqb→eq _ _ (t1 .0);
+        edition = eqb→eq _ _ (t2 .0);
+        verdict = leb→le _ _ (t3 .0);
+        count = eqb→eq _ _ (t4 .0);
+        blocks = λ i h. eqb→eq _ _ (and-T (eqb (sectionIn e (slotCount p) ev i 0) (getD cs i 0)) (leb (sectionIn e (slotCount p) ev i 2) 1) (each i h) .0);
+        marks = λ i h. leb→le _ _ (and-T (eqb (sectionIn e (slotCount p) ev i 0) (getD cs i 0)) (leb (sectionIn e (slotCount p) ev i 2) 1) (each i h) .1);
+      }
+
+  pub form-right : Form e p ev → T (formRight e p ev)
+  unfolding formRight sectionForm
+  form-right f =
+      rw (eq-eqb _ _ (f .size), eq-eqb _ _ (f .edition), le-leb _ _ (f .verdict), eq-eqb _ _ (f .count))
+      (range-all sectionForm 0 (length (candidates p))
+      (λ i l h. T-and (eqb (sectionIn e (slotCount p) ev i 0) (getD (candidates p) i 0)) _ (eq-T _ _ (f .blocks i (omega arith))) (rw (le-leb _ _ (f .marks i (omega arith))) tt)))
+
+-- ---- 15: the served weight
+
+module _ {p : Picture} (n : Named p) (w : ℕ) where
+  pub right-served : w ≡ servedWeight p → ServedWeight p (isHeld p) w
+  unfolding servedWeight
+  right-served e = rw e (served-weight n (isHeld p))
+
+  pub served-right : ServedWeight p (isHeld p) w → w ≡ servedWeight p
+  unfolding servedWeight
+  served-right s = total-one s (served-weight n (isHeld p))
+
+-- ---- 14 and 15 of a section
+
+-- the tests of section i, for the weighing w
+pub record SectionRight (e : Edition) (p : Picture) (ev : List ℕ) (i : ℕ) (w : Weighed) : Type 0 where
+  pub forest : ForestKept (joins (p .links)) (heldWithout p (w .block)) (slotCount p) (sectionForest e (slotCount p) ev i)
+  pub loss : sectionIn e (slotCount p) ev i 1 ≡ w .loss
+  pub mark : sectionIn e (slotCount p) ev i 2 ≡ w .mark
+
+-- two tests in their order, of which each has to pass
+two-right : (a b : Bool) → first (on (not a) 14 ∷ on (not b) 15 ∷ []) ≡ 0 → T a × T b
+unfolding first on
+two-right true true e = (tt, tt)
+two-right true false e = absurd (omega arith)
+two-right false b e = absurd (omega arith)
+
+right-two : (a b : Bool) → T a → T b → first (on (not a) 14 ∷ on (not b) 15 ∷ []) ≡ 0
+unfolding first on
+right-two true true s t = refl
+right-two true false s t = absurd t
+right-two false b s t = absurd s
+
+module _ (e : Edition) (p : Picture) (ev : List ℕ) (i : ℕ) (w : Weighed) where
+  unfoldable pub forestTest : Bool
+  forestTest = forestRight p (heldWithout p (w .block)) (sectionForest e (slotCount p) ev i)
+
+  unfoldable pub numbersTest : Bool
+  numbersTest = eqb (sectionIn e (slotCount p) ev i 1) (w .loss) && eqb (sectionIn e (slotCount p) ev i 2) (w .mark)
+
+  pub test-numbers : T numbersTest → (sectionIn e (slotCount p) ev i 1 ≡ w .loss) × (sectionIn e (slotCount p) ev i 2 ≡ w .mark)
+  unfolding numbersTest
+  test-numbers t =
+      let s = and-T (eqb (sectionIn e (slotCount p) ev i 1) (w .loss)) (eqb (sectionIn e (slotCount p) ev i 2) (w .mark)) t in
+      (eqb→eq _ _ (s .0), eqb→eq _ _ (s .1))
+
+  pub numbers-test : sectionIn e (slotCount p) ev i 1 ≡ w .loss → sectionIn e (slotCount p) ev i 2 ≡ w .mark → T numbersTest
+  unfolding numbersTest
+  numbers-test l m = rw (eq-eqb _ _ l, eq-eqb _ _ m) tt
+
+module _ (e : Edition) (p : Picture) (ev : List ℕ) (ws : List Weighed) (i : ℕ) where
+  pub fault-section : sectionFault e p ev ws i ≡ 0 → SectionRight e p ev i (at-place ws i)
+  unfolding sectionFault forestTest numbersTest
+  fault-section z =
+      let t = two-right (forestTest e p ev i (at-place ws i)) (numbersTest e p ev i (at-place ws i)) z in
+      let u = test-numbers e p ev i (at-place ws i) (t .1) in
+      record { forest = right-kept p _ _ (t .0); loss = u .0; mark = u .1 }
+
+  pub section-fault : SectionRight e p ev i (at-place ws i) → sectionFault e p ev ws i ≡ 0
+  unfolding sectionFault forestTest numbersTest
+  section-fault r =
+      right-two (forestTest e p ev i (at-place ws i)) (numbersTest e p ev i (at-place ws i)) (kept-right p _ _ (r .forest)) (numbers-test e p ev i (at-place ws i) (r .loss) (r .mark))
+
+-- ---- 15 of the section of block b, by chains
+
+module _ {p : Picture} (n : Named p) (e : Edition) (ev : List ℕ) (i b : ℕ) where
+  pub right-numbers : sectionIn e (slotCount p) ev i 1 ≡ weighed p b .loss → sectionIn e (slotCount p) ev i 2 ≡ weighed p b .mark → Numbers e p ev i b
+  right-numbers l m =
+      record { loss = rw l (loss-weight n b); marked = λ o. mark-protected n b (sym m ∙ o); unmarked = λ k. m ∙ protected-mark n k }
+
+  -- a mark over 1 is a fault of the form
+  pub numbers-right : sectionIn e (slotCount p) ev i 2 ≤ 1 → Numbers e p ev i b
+      → (sectionIn e (slotCount p) ev i 1 ≡ weighed p b .loss) × (sectionIn e (slotCount p) ev i 2 ≡ weighed p b .mark)
+  numbers-right h s = (
+    total-one (s .loss) (loss-weight n b),
+    by-cases
+        (ℕ-discrete (weighed p b .mark) 1)
+        (λ o. s .unmarked (mark-protected n b o) ∙ sym o)
+        (λ x. by-cases (ℕ-discrete (sectionIn e (slotCount p) ev i 2) 1) (λ o. o ∙ sym (protected-mark n (s .marked o))) (λ y. omega (arith, mark-le p b))),
+  )
+
+  pub right-section : SectionRight e p ev i (weighed p b) → Section e p ev i b
+  right-section r = record { forest = rw weighed-block at (r .forest); numbers = right-numbers (r .loss) (r .mark) }
+
+  pub section-right : sectionIn e (slotCount p) ev i 2 ≤ 1 → Section e p ev i b → SectionRight e p ev i (weighed p b)
+  section-right h s =
+      let q = numbers-right h (s .numbers) in
+      record { forest = rw weighed-block (s .forest); loss = q .0; mark = q .1 }
+
+-- ---- 16: the verdict
+
+-- the test that a weighing is the one named
+isNamed : ℕ → ℕ → Weighed → Bool
+isNamed b l w = eqb (w .block) b && (eqb (w .mark) 0 && eqb (w .loss) l)
+
+-- the test of the verdict, by what the head says
+verdictTest : List Weighed → ℕ → ℕ → ℕ → Bool
+verdictTest ws v b l = eqb v (least ws .verdict) && (eqb l (least ws .loss) && cond (eqb (least ws .verdict) 0) (eqb b 0) (any (isNamed b (least ws .loss)) ws))
+
+module _ {p : Picture} (n : Named p) (below : (b : ℕ) → Candidate p b → b < blockCount p) where
+  ws : List Weighed
+  ws = weighings p
+
+  c : Choice
+  c = least ws
+
+  test-verdict : (v b l : ℕ) → T (verdictTest (weighings p) v b l) → Verdict p v b l
+  unfolding verdictTest isNamed ws c
+  test-verdict v b l t =
+      let t1 = and-T (eqb v (c .verdict)) _ t in
+      let t2 = and-T (eqb l (c .loss)) (cond (eqb (c .verdict) 0) (eqb b 0) (any (isNamed b (c .loss)) ws)) (t1 .1) in
+      ⊎-elim (some (eqb→eq v (c .verdict) (t1 .0)) (eqb→eq l (c .loss) (t2 .0)) (t2 .1)) (nothing (eqb→eq v (c .verdict) (t1 .0)) (eqb→eq l (c .loss) (t2 .0)) (t2 .1)) (least-right ws)
+    where
+      some : v ≡ c .verdict → l ≡ c .loss → T (cond (eqb (c .verdict) 0) (eqb b 0) (any (isNamed b (c .loss)) ws)) → Chosen ws c → Verdict p v b l
+      some ev el u k =
+          let deep : c .verdict ≢ 0 = λ z. absurd (omega (arith, k .verdict)) in
+          let r = any-at (at-place [] 0) (isNamed b (c .loss)) ws (subst (λ (x : Bool). T (cond x (eqb b 0) (any (isNamed b (c .loss)) ws))) (ne-eqb (c .verdict) 0 deep) u) in
+          let w = at-place ws (r .at) in
+          let s1 = and-T (eqb (w .block) b) (eqb (w .mark) 0 && eqb (w .loss) (c .loss)) (r .passes) in
+          let s2 = and-T (eqb (w .mark) 0) (eqb (w .loss) (c .loss)) (s1 .1) in
+          rw (ev ∙ k .verdict)
+          (chosen (least-best n below (record {
+            at = r .at;
+            within = r .within;
+            clear = eqb→eq (w .mark) 0 (s2 .0);
+            block = eqb→eq (w .block) b (s1 .0);
+            loss = eqb→eq (w .loss) (c .loss) (s2 .1) ∙ sym el;
+            least = λ j h m. omega (arith, k .least j h m);
+          })))
+
+      nothing : v ≡ c .verdict → l ≡ c .loss → T (cond (eqb (c .verdict) 0) (eqb b 0) (any (isNamed b (c .loss)) ws)) → Nothing ws c → Verdict p v b l
+      nothing ev el u k =
+          let z : b ≡ 0 = eqb→eq b 0 (subst (λ (x : Bool). T (cond x (eqb b 0) (any (isNamed b (c .loss)) ws))) (eq-eqb (c .verdict) 0 (k .verdict)) u) in
+          rw (ev ∙ k .verdict, z, el ∙ k .loss) (none (marked-cut n below (k .marked)))
+
+  verdict-test : (v b l : ℕ) → Verdict p v b l → T (verdictTest (weighings p) v b l)
+  unfolding verdictTest isNamed ws c
+  verdict-test v b l (chosen t) =
+      let k = best-least n below t in
+      let q = least-loss k in
+      let w = at-place ws (k .at) in
+      let deep : c .verdict ≢ 0 = λ z. absurd (omega arith) in
+      T-and (eqb 1 (c .verdict)) _ (eq-T 1 (c .verdict) (sym (q .0)))
+      (T-and (eqb l (c .loss)) _ (eq-T l (c .loss) (sym (q .1)))
+      (rw (ne-eqb (c .verdict) 0 deep)
+      (at-any (at-place [] 0) (isNamed b (c .loss)) ws (k .at) (k .within)
+      (T-and (eqb (w .block) b) _ (eq-T (w .block) b (k .block)) (T-and (eqb (w .mark) 0) _ (eq-T (w .mark) 0 (k .clear)) (eq-T (w .loss) (c .loss) (k .loss ∙ sym (q .1))))))))
+  verdict-test v b l (none k) =
+      let z = none-least ws (cut-marked n below k) in
+      let y = least-none ws z in
+      rw (z, y .loss) tt
+
+  pub right-verdict : (ev : List ℕ) → T (verdictRight ev (weighings p)) → Verdict p (headIn ev 1) (headIn ev 2) (headIn ev 5)
+  unfolding verdictRight verdictTest isNamed
+  right-verdict ev t = test-verdict (headIn ev 1) (headIn ev 2) (headIn ev 5) t
+
+  pub verdict-right : (ev : List ℕ) → Verdict p (headIn ev 1) (headIn ev 2) (headIn ev 5) → T (verdictRight ev (weighings p))
+  unfolding verdictRight verdictTest isNamed
+  verdict-right ev v = verdict-test (headIn ev 1) (headIn ev 2) (headIn ev 5) v

@@ -1,0 +1,19 @@
+-- All evidence that passes for a picture has the same verdict and the same loss. Assumes nothing.
+use mathlib.Core.Path.{_≡_, refl}
+use mathlib.Core.List.{List}
+use Prim.Native.Nat.{ℕ}
+use native.Mathlib.Omega.{arith}
+use Rattle.picture.specs.Picture.{Picture}
+use Rattle.evidence.specs.Checks.{headIn}
+use Rattle.evidence.specs.Rules.{Verdict, chosen, none, Passes}
+
+-- the block may be another one of the least
+pub verdict-one : {p : Picture} {v b l v′ b′ l′ : ℕ} → Verdict p v b l → Verdict p v′ b′ l′ → (v ≡ v′) × (l ≡ l′)
+verdict-one (chosen {block = b} {loss = l} s) (chosen {block = c} {loss = m} t) =
+    (refl, omega (arith, s .least c (t .candidate) (t .admissible) m (t .stated), t .least b (s .candidate) (s .admissible) l (s .stated)))
+verdict-one (chosen {block = b} s) (none k) = absurd (s .admissible (k b (s .candidate)))
+verdict-one (none k) (chosen {block = b} s) = absurd (s .admissible (k b (s .candidate)))
+verdict-one (none k) (none j) = (refl, refl)
+
+pub same-verdict : {bs ev ev′ : List ℕ} → Passes bs ev → Passes bs ev′ → (headIn ev 1 ≡ headIn ev′ 1) × (headIn ev 5 ≡ headIn ev′ 5)
+same-verdict a b = verdict-one (a .verdict) (b .verdict)
