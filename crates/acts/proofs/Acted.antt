@@ -1,0 +1,263 @@
+-- An act on the bytes is the act on the picture: the bytes stay accepted, their header stays, and so does every bit but the states of
+-- the block. Assumes nothing.
+use mathlib.Core.Path.{_≡_, refl, sym, ap, ap₂, _∙_}
+use mathlib.Core.Bool.{Bool, true, false, _&&_, cond}
+use mathlib.Core.Logic.{_⊎_, inl, inr}
+use mathlib.Core.List.{List, [], _∷_, map}
+use Prim.Native.Nat.{ℕ, zero, suc, _+_, _*_, _≤_, _<_, zero-le, suc-le-suc}
+use native.Mathlib.Omega.{arith}
+use native.Mathlib.Decide.{decLt}
+use native.Mathlib.Nat.{add-zero, add-suc, suc-add, zero-add, mod-eq-of-lt, le-trans}
+use native.Mathlib.Numerals.{add-one, one-add}
+use lib.Dec.{T, eqb, leb}
+use borrow.Author.Tests.{leb-true, leb-false}
+use lib.ListN.{length, getD, take}
+use Rattle.bits.specs.Bits.{bitAt, fieldAt}
+use Rattle.bits.proofs.Reading.{fieldAt-lt}
+use Rattle.lists.specs.Lists.{range, item, sum}
+use Rattle.picture.specs.declared.Header.{Header}
+use Rattle.picture.specs.Layout.{Edition, edition1, headerWidths, slotWidths, endpointWidths, linkWidths, serviceWidths, fieldIn, slotsAt, endpointsAt, linksAt, servicesAt, endAt}
+use Rattle.picture.specs.Picture.{Picture, Slot, headerIn, headerOf, slotAt, endpointAt, linkAt, rows, pictureWith, pictureOf, slotOf}
+use Rattle.picture.specs.Faults.{pictureFault}
+use Rattle.picture.specs.Rules.{Kept}
+use Rattle.picture.proofs.Starts.{field-first, field-second, row-at, rounded}
+use Rattle.picture.proofs.Accepted.{accepted-kept, kept-accepted}
+use Rattle.network.specs.Words.{slotCount, blockCount, inBlock}
+use Rattle.network.proofs.Named.{slots-counted}
+use Rattle.weigh.proofs.Blocks.{block-fits}
+use Rattle.acts.specs.declared.Act.{Act}
+use Rattle.acts.specs.Acts.{after, blockSlots, putStates, doneBytes, slotAfter, actOn}
+use Rattle.acts.proofs.States.{stateAt, length-putStates, bit-beside, field-beside, field-state}
+use Rattle.acts.proofs.Slots.{after-small, block-in, states-known}
+
+-- ---- rows
+
+-- two functions that agree place by place give the same list
+map-range-same : {A : Type 0} (f g : ℕ → A) (i j k : ℕ) → ((m : ℕ) → m < k → f (i + m) ≡ g (j + m)) → map f (range i k) ≡ map g (range j k)
+unfolding range
+map-range-same f g i j zero h = refl
+map-range-same {A} f g i j (suc k) h =
+    ap₂ {C = List A} (λ (x : A) (l : List A). x ∷ l) (ap f (sym (add-zero i)) ∙ h 0 (suc-le-suc zero-le) ∙ ap g (add-zero j))
+    (map-range-same f g (suc i) (suc j) k (λ m s. ap f (suc-add i m ∙ sym (add-suc i m)) ∙ h (suc m) (suc-le-suc s) ∙ ap g (add-suc j m ∙ sym (suc-add j m))))
+
+rows-same : {A : Type 0} (f g : ℕ → A) (q w k : ℕ) → ((x : ℕ) → q ≤ x → f x ≡ g x) → rows f q w k ≡ rows g q w k
+unfolding rows
+rows-same f g q w k h = map-range-same (λ i. f (q + i * w)) (λ i. g (q + i * w)) 0 0 k (λ m s. h _ (omega arith))
+
+-- the states of two slots do not meet
+states-apart : (i j : ℕ) → i < j → stateAt edition1 i + 2 ≤ stateAt edition1 j
+unfolding stateAt slotWidths sum
+states-apart i j l = omega arith
+
+-- ---- the bytes
+
+-- bit m is one of the two of the state of a slot of block b
+pub record StateBit (e : Edition) (p : Picture) (b m : ℕ) : Type 0 where
+  pub before : ℕ
+  pub inside : T (inBlock p b (suc before))
+  pub from : stateAt e before ≤ m
+  pub below : m < stateAt e before + 2
+
+module _ (a : Act) (bs : List ℕ) (b : ℕ) (ok : pictureFault bs ≡ 0) (there : b < blockCount (pictureOf bs)) where
+  abbrev h : Header
+  h = headerOf bs
+
+  abbrev p : Picture
+  p = pictureOf bs
+
+  abbrev size : ℕ
+  size = headerOf bs .«block_size»
+
+  abbrev done : List ℕ
+  done = doneBytes a bs b
+
+  abbrev states : ℕ → ℕ
+  states v = after a (slotOf (pictureOf bs) v .state)
+
+  fits : b * size + size ≤ h .slots
+  unfolding pictureOf pictureWith blockCount
+  fits = block-fits (h .slots) size b (rw (← slots-counted bs) there)
+
+  bytes : done ≡ putStates edition1 states bs (range (suc (b * size)) size)
+  unfolding doneBytes blockSlots pictureOf pictureWith
+  bytes = ap (λ (i : ℕ). putStates edition1 states bs (range i size)) (add-one (b * size))
+
+  -- the states lie inside the bytes
+  room : stateAt edition1 (b * size + size) ≤ length bs * 8
+  unfolding stateAt endAt servicesAt linksAt endpointsAt slotWidths sum
+  room = omega (arith, fits, rounded h .room, accepted-kept bs ok .long)
+
+  pub acted-length : length (doneBytes a bs b) ≡ length bs
+  acted-length = ap (λ (l : List ℕ). length l) bytes ∙ length-putStates edition1 states bs (range (suc (b * size)) size)
+
+  -- every bit that is not one of the two state bits of a slot of the block is as it was
+  pub acted-bits : (m : ℕ) → ¬ StateBit edition1 (pictureOf bs) b m → bitAt (doneBytes a bs b) m ≡ bitAt bs m
+  acted-bits m n = rw bytes (bit-beside edition1 states bs m (b * size) size room (λ j l s. beside j l s (decLt m (stateAt edition1 j)) (decLt m (stateAt edition1 j + 2))))
+    where
+      inside : (j : ℕ) → b * size ≤ j → j < b * size + size → T (inBlock (pictureOf bs) b (suc j))
+      inside j l s = unfold pictureOf pictureWith in block-in p b (suc j) (omega arith) s
+
+      beside : (j : ℕ) → b * size ≤ j → j < b * size + size → Dec (m < stateAt edition1 j) → Dec (m < stateAt edition1 j + 2) → (m < stateAt edition1 j) ⊎ (stateAt edition1 j + 2 ≤ m)
+      beside j l s (yes x) y = inl x
+      beside j l s (no x) (yes y) = absurd (n (record { before = j; inside = inside j l s; from = omega arith; below = y }))
+      beside j l s (no x) (no y) = inr (omega arith)
+
+  -- ---- fields
+
+  -- a field that starts behind the slots or ends before them
+  apart : (q u : ℕ) → (q + u ≤ slotsAt edition1) ⊎ (endpointsAt edition1 h ≤ q) → fieldAt done q u ≡ fieldAt bs q u
+  unfolding stateAt endpointsAt slotWidths sum
+  apart q u o = rw bytes (field-beside edition1 states bs q u (b * size) size room (λ j l s. place o j s))
+    where
+      place : (q + u ≤ slotsAt edition1) ⊎ (endpointsAt edition1 h ≤ q) → (j : ℕ) → j < b * size + size → (q + u ≤ stateAt edition1 j) ⊎ (stateAt edition1 j + 2 ≤ q)
+      place (inl x) j s = inl (omega arith)
+      place (inr x) j s = inr (omega (arith, fits))
+
+  in-header : (q u : ℕ) → q + u ≤ slotsAt edition1 → fieldAt done q u ≡ fieldAt bs q u
+  in-header q u l = apart q u (inl l)
+
+  behind : (ws : List ℕ) (q k : ℕ) → endpointsAt edition1 h ≤ q → fieldIn done ws q k ≡ fieldIn bs ws q k
+  unfolding fieldIn
+  behind ws q k l = apart (q + sum (take k ws)) (getD ws k 0) (inr (omega arith))
+
+  bit-behind : (m : ℕ) → endpointsAt edition1 h ≤ m → bitAt done m ≡ bitAt bs m
+  unfolding stateAt endpointsAt slotWidths sum
+  bit-behind m l = rw bytes (bit-beside edition1 states bs m (b * size) size room (λ j i s. inr (omega (arith, fits))))
+
+  edition-same : fieldIn done (headerWidths edition1) 0 0 ≡ fieldIn bs (headerWidths edition1) 0 0
+  unfolding fieldIn headerWidths slotsAt sum
+  edition-same = in-header 0 4 (omega arith)
+
+  pub acted-header : headerOf (doneBytes a bs b) ≡ headerOf bs
+  unfolding headerOf headerIn fieldIn headerWidths slotsAt sum
+  acted-header = λ i.
+      record {
+        «block_size» = in-header 4 4 (omega arith) i;
+        slots = in-header 8 8 (omega arith) i;
+        «near_limit» = in-header 16 8 (omega arith) i;
+        endpoints = in-header 24 8 (omega arith) i;
+        links = in-header 32 12 (omega arith) i;
+        «service_links» = in-header 44 12 (omega arith) i;
+      }
+
+  -- ---- slots
+
+  slot-at : (i : ℕ) → i < h .slots → slotOf p (suc i) ≡ slotAt bs (stateAt edition1 i)
+  unfolding slotOf item pictureOf pictureWith stateAt
+  slot-at i l = row-at (slotAt bs) _ (slotsAt edition1) (sum slotWidths) (h .slots) i l
+
+  state-at : (i : ℕ) → i < h .slots → slotOf p (suc i) .state ≡ fieldAt bs (stateAt edition1 i) 2
+  unfolding slotAt slotWidths
+  state-at i l = ap (λ (s : Slot). s .state) (slot-at i l) ∙ field-first bs 2 (1 ∷ []) (stateAt edition1 i)
+
+  near-at : (i : ℕ) → i < h .slots → slotOf p (suc i) .near ≡ eqb (fieldAt bs (stateAt edition1 i + 2) 1) 1
+  unfolding slotAt slotWidths
+  near-at i l = ap (λ (s : Slot). s .near) (slot-at i l) ∙ ap (λ (x : ℕ). eqb x 1) (field-second bs 2 1 [] (stateAt edition1 i))
+
+  state-after : (i : ℕ) → i < h .slots → fieldAt done (stateAt edition1 i) 2 ≡ slotAfter a p b (suc i) .state
+  unfolding slotAfter inBlock pictureOf pictureWith
+  state-after i l = rw bytes (go (leb (b * size + 1) (suc i)) refl (leb (suc i) (b * size + size)) refl)
+    where
+      new : List ℕ
+      new = putStates edition1 states bs (range (suc (b * size)) size)
+
+      s : ℕ
+      s = slotOf p (suc i) .state
+
+      small : after a s < 4
+      small = after-small a s (rw (state-at i l) (fieldAt-lt bs (stateAt edition1 i) 2))
+
+      keep : (i < b * size) ⊎ (b * size + size ≤ i) → fieldAt new (stateAt edition1 i) 2 ≡ s
+      keep o = field-beside edition1 states bs (stateAt edition1 i) 2 (b * size) size room (λ j m t. beside o j m t) ∙ sym (state-at i l)
+        where
+          beside : (i < b * size) ⊎ (b * size + size ≤ i) → (j : ℕ) → b * size ≤ j → j < b * size + size → (stateAt edition1 i + 2 ≤ stateAt edition1 j) ⊎ (stateAt edition1 j + 2 ≤ stateAt edition1 i)
+          beside (inl x) j m t = inl (states-apart i j (omega arith))
+          beside (inr x) j m t = inr (states-apart j i (omega arith))
+
+      go : (x : Bool) → leb (b * size + 1) (suc i) ≡ x → (y : Bool) → leb (suc i) (b * size + size) ≡ y → fieldAt new (stateAt edition1 i) 2 ≡ cond (x && y) (after a s) s
+      go true ex true ey = field-state edition1 states bs (b * size) size i room (omega (arith, leb-true (b * size + 1) (suc i) ex)) (omega (arith, leb-true (suc i) (b * size + size) ey)) ∙ mod-eq-of-lt small
+      go true ex false ey = keep (inr (omega (arith, leb-false (suc i) (b * size + size) ey)))
+      go false ex y ey = keep (inl (omega (arith, leb-false (b * size + 1) (suc i) ex)))
+
+  near-after : (i : ℕ) → fieldAt done (stateAt edition1 i + 2) 1 ≡ fieldAt bs (stateAt edition1 i + 2) 1
+  unfolding stateAt slotWidths sum
+  near-after i = rw bytes (field-beside edition1 states bs (stateAt edition1 i + 2) 1 (b * size) size room (λ j l t. beside j (decLt i j)))
+    where
+      beside : (j : ℕ) → Dec (i < j) → (stateAt edition1 i + 2 + 1 ≤ stateAt edition1 j) ⊎ (stateAt edition1 j + 2 ≤ stateAt edition1 i + 2)
+      beside j (yes x) = inl (omega arith)
+      beside j (no x) = inr (omega arith)
+
+  slot-after : (i : ℕ) → i < h .slots → slotAt done (stateAt edition1 i) ≡ slotAfter a p b (suc i)
+  unfolding slotAt slotAfter slotWidths
+  slot-after i l = λ j. record { state = state j; near = near j }
+    where
+      state : fieldIn done (2 ∷ 1 ∷ []) (stateAt edition1 i) 0 ≡ slotAfter a p b (suc i) .state
+      state = field-first done 2 (1 ∷ []) (stateAt edition1 i) ∙ state-after i l
+
+      near : eqb (fieldIn done (2 ∷ 1 ∷ []) (stateAt edition1 i) 1) 1 ≡ slotOf p (suc i) .near
+      near = ap (λ (x : ℕ). eqb x 1) (field-second done 2 1 [] (stateAt edition1 i) ∙ near-after i) ∙ sym (near-at i l)
+
+  slots-after : rows (slotAt done) (slotsAt edition1) (sum slotWidths) (h .slots) ≡ map (slotAfter a p b) (range 1 (slotCount p))
+  unfolding rows stateAt
+  slots-after =
+      map-range-same (λ i. slotAt done (slotsAt edition1 + i * sum slotWidths)) (slotAfter a p b) 0 1 (h .slots)
+      (λ i l. ap (λ (j : ℕ). slotAt done (slotsAt edition1 + j * sum slotWidths)) (zero-add i) ∙ slot-after i l ∙ ap (slotAfter a p b) (sym (one-add i)))
+      ∙ ap (λ (k : ℕ). map (slotAfter a p b) (range 1 k)) (sym (slots-counted bs))
+
+  -- ---- the parts behind the slots
+
+  endpoint-same : (q : ℕ) → endpointsAt edition1 h ≤ q → endpointAt done q ≡ endpointAt bs q
+  unfolding endpointAt
+  endpoint-same q l = λ i. record { weight = behind endpointWidths q 0 l i; protected = eqb (behind endpointWidths q 1 l i) 1 }
+
+  link-same : (ws : List ℕ) (q : ℕ) → endpointsAt edition1 h ≤ q → linkAt ws done q ≡ linkAt ws bs q
+  unfolding linkAt
+  link-same ws q l = λ i. record { from = behind ws q 0 l i; to = behind ws q 1 l i }
+
+  links-behind : endpointsAt edition1 h ≤ linksAt edition1 h
+  unfolding linksAt
+  links-behind = omega arith
+
+  services-behind : endpointsAt edition1 h ≤ servicesAt edition1 h
+  unfolding servicesAt linksAt
+  services-behind = omega arith
+
+  end-behind : endpointsAt edition1 h ≤ endAt edition1 h
+  unfolding endAt servicesAt linksAt
+  end-behind = omega arith
+
+  -- the new bytes say what the act makes of the picture
+  pub acted-picture : pictureOf (doneBytes a bs b) ≡ actOn a (pictureOf bs) b
+  unfolding pictureOf pictureWith actOn
+  acted-picture =
+      ap (λ (k : Header). pictureWith edition1 k done) acted-header
+      ∙ (λ i.
+      record {
+        blockSize = h .«block_size»;
+        nearLimit = h .«near_limit»;
+        slots = slots-after i;
+        endpoints = rows-same (endpointAt done) (endpointAt bs) (endpointsAt edition1 h) (sum endpointWidths) (h .endpoints) endpoint-same i;
+        links = rows-same (linkAt (linkWidths edition1) done) (linkAt (linkWidths edition1) bs) (linksAt edition1 h) (sum (linkWidths edition1)) (h .links)
+            (λ x l. link-same (linkWidths edition1) x (le-trans links-behind l)) i;
+        services = rows-same (linkAt (serviceWidths edition1) done) (linkAt (serviceWidths edition1) bs) (servicesAt edition1 h) (sum (serviceWidths edition1)) (h .«service_links»)
+            (λ x l. link-same (serviceWidths edition1) x (le-trans services-behind l)) i;
+      })
+
+  -- and are accepted
+  pub acted-accepted : pictureFault (doneBytes a bs b) ≡ 0
+  acted-accepted =
+      kept-accepted done
+      (record {
+        header = rw acted-length (k .header);
+        edition = edition-same ∙ k .edition;
+        sizes = rw acted-header (k .sizes);
+        counts = rw acted-header (k .counts);
+        long = rw (acted-header, acted-length) (k .long);
+        states = rw (acted-header, acted-picture) (record { state = λ v l m. states-known a p b (λ u x y. k .states .state u x (rw (slots-counted bs) at y)) v l (rw (slots-counted bs) m) });
+        links = rw (acted-header, acted-picture) (unfold actOn in record { from = k .links .from; to = k .links .to });
+        services = rw (acted-header, acted-picture) (unfold actOn in record { location = k .services .location; endpoint-some = k .services .endpoint-some; endpoint-most = k .services .endpoint-most });
+        ends = rw acted-header (record { fill = λ i l m. bit-behind i (le-trans end-behind l) ∙ k .ends .fill i l m; end = acted-length ∙ k .ends .end });
+      })
+    where
+      k : Kept bs
+      k = accepted-kept bs ok

@@ -1,0 +1,8 @@
+-- Laws of the acts.
+pub mod States
+pub mod Slots
+pub mod Acted
+pub mod Evicted
+pub mod Reloaded
+pub mod Judged
+pub mod Choosable
