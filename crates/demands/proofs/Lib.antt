@@ -1,0 +1,2 @@
+-- The proof of the owner's third demand.
+pub mod Third

@@ -1,0 +1,121 @@
+-- The third demand is met. Assumes nothing.
+use mathlib.Core.Path.{_≡_, refl, sym, ap, _∙_}
+use mathlib.Core.Bool.{Bool, cond}
+use mathlib.Core.Logic.{_≢_}
+use mathlib.Core.List.{List, [], _∷_, _++_}
+use Prim.Native.Nat.{ℕ, zero, suc, _+_, _≤_, _<_}
+use native.Mathlib.Omega.{arith}
+use borrow.Author.Tests.{le-ltb}
+use lib.Dec.{eqb, ltb}
+use lib.ListN.{length, take, drop}
+use Rattle.lists.specs.Lists.{first, on}
+use Rattle.lists.proofs.Sums.{total-one}
+use Rattle.picture.specs.Picture.{Picture, pictureOf}
+use Rattle.picture.specs.Faults.{pictureFault}
+use Rattle.network.specs.Words.{isHeld, blockCount, ServedWeight, Loss, CutsProtected, Candidate, Admissible}
+use Rattle.network.specs.Tests.{servedWeight, weighed}
+use Rattle.network.proofs.Named.{accepted-named}
+use Rattle.evidence.specs.Canonical.{evidenceOf}
+use Rattle.evidence.specs.Checks.{headIn, checkFault}
+use Rattle.evidence.specs.Calls.{lengthFor, chooseFault, chosenBytes}
+use Rattle.evidence.specs.Rules.{Named, Verdict, chosen, none}
+use Rattle.evidence.proofs.Fields.{length-evidence}
+use Rattle.evidence.proofs.Passing.{check-passes}
+use Rattle.evidence.proofs.Canonical.{canonical-passes}
+use Rattle.evidence.proofs.Unique.{same-verdict}
+use Rattle.acts.specs.declared.Act.the-variants.{Evict}
+use Rattle.acts.specs.Acts.{actFault, actBytes, doneBytes}
+use Rattle.acts.proofs.Acted.{acted-accepted}
+use Rattle.acts.proofs.Evicted.{evicted-served}
+use Rattle.acts.proofs.Judged.{done-bytes}
+use Rattle.acts.proofs.Choosable.{candidate-there, evict-candidate}
+use Rattle.network.proofs.Weights.{served-weight, loss-weight}
+use Rattle.demands.specs.Demands.{written, verdictIn, blockIn, lossIn, Serves, Lowers, AllCut, Names, Proves, ThirdDemand}
+
+-- ---- what a right verdict says
+
+none-all : {p : Picture} {v b l : ℕ} → Verdict p v b l → v ≡ 0 → AllCut p
+none-all (chosen n) e = absurd (omega arith)
+none-all (none k) e = k
+
+all-none : {p : Picture} {v b l : ℕ} → Verdict p v b l → AllCut p → v ≡ 0
+all-none (chosen {block = b} n) k = absurd (n .admissible (k b (n .candidate)))
+all-none (none k) _ = refl
+
+verdict-small : {p : Picture} {v b l : ℕ} → Verdict p v b l → v ≤ 1
+verdict-small (chosen n) = omega arith
+verdict-small (none k) = omega arith
+
+verdict-named : {p : Picture} {v b l : ℕ} → Verdict p v b l → v ≢ 0 → Named p b l
+verdict-named (chosen n) _ = n
+verdict-named (none k) m = absurd (m refl)
+
+-- ---- evicting what is named
+
+module _ (bs : List ℕ) (ok : pictureFault bs ≡ 0) {b l : ℕ} (n : Named (pictureOf bs) b l) where
+  evicts-named : actFault Evict bs b ≡ 0
+  evicts-named = evict-candidate bs b ok (n .candidate) (n .admissible)
+
+  -- the served weight before is that after with the loss added
+  lowers-named : Lowers (pictureOf bs) (pictureOf (actBytes Evict bs b)) l
+  unfolding servedWeight
+  lowers-named =
+      let p = pictureOf bs in
+      let there = candidate-there bs b ok (n .candidate) in
+      let done = doneBytes Evict bs b in
+      rw (done-bytes Evict bs b evicts-named)
+      (record {
+        weight = servedWeight (pictureOf done);
+        afterwards = served-weight (accepted-named done (acted-accepted Evict bs b ok there)) (isHeld (pictureOf done));
+        earlier =
+            rw (total-one (n .stated) (loss-weight (accepted-named bs ok) b), evicted-served bs b ok there)
+            (served-weight (accepted-named bs ok) (isHeld p));
+      })
+
+-- ---- what choose writes
+
+-- where nothing is wrong
+choose-takes : (bs buf : List ℕ) → pictureFault bs ≡ 0 → lengthFor bs ≤ length buf → chooseFault bs buf ≡ 0
+unfolding chooseFault first on
+choose-takes bs buf ok fits = rw (ok, le-ltb (length buf) (lengthFor bs) fits) refl
+
+take-front : (xs ys : List ℕ) → take (length xs) (xs ++ ys) ≡ xs
+take-front [] ys = refl
+take-front (x ∷ xs) ys = ap (λ (zs : List ℕ). x ∷ zs) (take-front xs ys)
+
+written-fixed : (bs buf : List ℕ) → chooseFault bs buf ≡ 0 → written bs buf ≡ evidenceOf bs
+unfolding written chosenBytes lengthFor
+written-fixed bs buf z = rw (z, sym (length-evidence bs)) (take-front (evidenceOf bs) (drop (length (evidenceOf bs)) buf))
+
+-- ---- all of it
+
+fixed-proves : (bs : List ℕ) → pictureFault bs ≡ 0 → Proves bs (evidenceOf bs)
+unfolding verdictIn blockIn lossIn
+fixed-proves bs ok =
+    let ev = evidenceOf bs in
+    let passing = check-passes bs ev (canonical-passes bs ok) in
+    let right = passing .verdict in
+    record {
+      none-cuts = none-all right;
+      cuts-none = all-none right;
+      verdict = verdict-small right;
+      names = λ m.
+          let n = verdict-named right m in
+          record {
+            candidate = n .candidate;
+            admissible = n .admissible;
+            loss = n .stated;
+            least = n .least;
+            evicts = evicts-named bs ok n;
+            lowers = lowers-named bs ok n;
+          };
+      fixed = refl;
+      passes = canonical-passes bs ok;
+      verdicts = λ other z. same-verdict (check-passes bs other z) passing .0;
+      losses = λ other z. same-verdict (check-passes bs other z) passing .1;
+    }
+
+pub third-demand : ThirdDemand
+third-demand bs buf ok fits =
+    let z = choose-takes bs buf ok fits in
+    (z, rw (written-fixed bs buf z) (fixed-proves bs ok))

@@ -1,0 +1,2 @@
+-- The owner's third demand.
+pub mod Demands
