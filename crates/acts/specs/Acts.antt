@@ -9,7 +9,7 @@ use Rattle.lists.specs.Lists.{range, on, first, sum, any, filter}
 use Rattle.picture.specs.Layout.{Edition, editionOf, slotWidths, slotsAt}
 use Rattle.picture.specs.Picture.{Picture, Slot, pictureOf, slotOf}
 use Rattle.picture.specs.Faults.{pictureFault}
-use Rattle.network.specs.Words.{slotCount, inBlock, isHeld}
+use Rattle.network.specs.Words.{slotCount, inBlock}
 use Rattle.network.specs.Tests.{weighed}
 use Rattle.network.specs.Rows.{isNearHeld}
 use Rattle.weigh.specs.Weighing.{blockFault}

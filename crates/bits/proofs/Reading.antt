@@ -1,12 +1,12 @@
 -- Laws of reading: a field is below 2 ^ w, adjacent fields join, a field lies inside a wider one, and eight bits at a byte are that byte.
 -- Assumes nothing.
-use mathlib.Core.Path.{_≡_, refl, sym, ap, ap₂, _∙_, subst}
+use mathlib.Core.Path.{_≡_, refl, sym, ap, ap₂, _∙_}
 use mathlib.Core.List.{List}
 use Prim.Native.Nat.{ℕ, zero, suc, _+_, _-_, _*_, _/_, _%_, _^_, _<_, _≤_}
 use native.Mathlib.Omega.{arith}
 use native.Mathlib.Decide.{ℕ-discrete}
 use native.Mathlib.Numerals.{add-one}
-use native.Mathlib.Nat.{add-zero, add-suc, add-assoc, add-mul, mul-assoc, mul-one, mod-one, mod-lt, div-one, mod-eq-of-lt, pow-suc, zero-lt-suc, lt-of-lt-of-le}
+use native.Mathlib.Nat.{add-zero, add-suc, add-assoc, mul-assoc, mul-one, mod-one, mod-lt, div-one, mod-eq-of-lt, pow-suc, zero-lt-suc, lt-of-lt-of-le}
 use lib.ListN.{getD}
 use lib.Pow.{pow-mono, shr-shr, mod-pow-add, high, low}
 use lib.Arith.{digits-lt}

@@ -5,7 +5,7 @@ use mathlib.Core.Logic.{_⊎_, inl, inr, _≢_}
 use mathlib.Core.List.{List}
 use Prim.Native.Nat.{ℕ, zero, suc, _+_, _-_, _*_, _/_, _%_, _^_, _<_, _≤_}
 use native.Mathlib.Omega.{arith}
-use native.Mathlib.Nat.{add-mul, add-assoc, add-zero, add-suc, mul-assoc, mul-comm, zero-mul, mod-one, pow-suc, div-add-mod', mod-lt, mod-eq-of-lt, mod-le, div-one, zero-lt-suc, le-trans, mul-le-mul-right, div-mul-le-self}
+use native.Mathlib.Nat.{add-mul, add-assoc, add-zero, add-suc, mul-assoc, zero-mul, mod-one, mod-lt, mod-eq-of-lt, mod-le, div-one, zero-lt-suc, le-trans, mul-le-mul-right, div-mul-le-self}
 use native.Mathlib.Decide.{decLt, ℕ-discrete}
 use native.Mathlib.Numerals.{add-one, one-add}
 use lib.ListN.{length, getD, set, length-set}

@@ -1,22 +1,19 @@
 -- The third demand is met. Assumes nothing.
-use mathlib.Core.Path.{_≡_, refl, sym, ap, _∙_}
-use mathlib.Core.Bool.{Bool, cond}
+use mathlib.Core.Path.{_≡_, refl, sym, ap}
 use mathlib.Core.Logic.{_≢_}
 use mathlib.Core.List.{List, [], _∷_, _++_}
-use Prim.Native.Nat.{ℕ, zero, suc, _+_, _≤_, _<_}
+use Prim.Native.Nat.{ℕ, _+_, _≤_}
 use native.Mathlib.Omega.{arith}
 use borrow.Author.Tests.{le-ltb}
-use lib.Dec.{eqb, ltb}
 use lib.ListN.{length, take, drop}
 use Rattle.lists.specs.Lists.{first, on}
 use Rattle.lists.proofs.Sums.{total-one}
 use Rattle.picture.specs.Picture.{Picture, pictureOf}
 use Rattle.picture.specs.Faults.{pictureFault}
-use Rattle.network.specs.Words.{isHeld, blockCount, ServedWeight, Loss, CutsProtected, Candidate, Admissible}
-use Rattle.network.specs.Tests.{servedWeight, weighed}
+use Rattle.network.specs.Words.{isHeld}
+use Rattle.network.specs.Tests.{servedWeight}
 use Rattle.network.proofs.Named.{accepted-named}
 use Rattle.evidence.specs.Canonical.{evidenceOf}
-use Rattle.evidence.specs.Checks.{headIn, checkFault}
 use Rattle.evidence.specs.Calls.{lengthFor, chooseFault, chosenBytes}
 use Rattle.evidence.specs.Rules.{Named, Verdict, chosen, none}
 use Rattle.evidence.proofs.Fields.{length-evidence}
@@ -30,7 +27,7 @@ use Rattle.acts.proofs.Evicted.{evicted-served}
 use Rattle.acts.proofs.Judged.{done-bytes}
 use Rattle.acts.proofs.Choosable.{candidate-there, evict-candidate}
 use Rattle.network.proofs.Weights.{served-weight, loss-weight}
-use Rattle.demands.specs.Demands.{written, verdictIn, blockIn, lossIn, Serves, Lowers, AllCut, Names, Proves, ThirdDemand}
+use Rattle.demands.specs.Demands.{written, verdictIn, blockIn, lossIn, Lowers, AllCut, Proves, ThirdDemand}
 
 -- ---- what a right verdict says
 

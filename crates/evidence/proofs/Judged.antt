@@ -15,11 +15,11 @@ use Rattle.lists.proofs.Faults.{first-stop, judge-none, Numbered}
 use Rattle.picture.specs.Layout.{Edition, editionOf}
 use Rattle.picture.specs.Picture.{Picture, pictureOf}
 use Rattle.picture.proofs.Accepted.{judged, numbered}
-use Rattle.network.specs.Words.{slotCount, isHeld, heldWithout, joins, ServedWeight}
+use Rattle.network.specs.Words.{slotCount, isHeld}
 use Rattle.network.specs.Tests.{Weighed, weighed, servedWeight, candidates}
 use Rattle.network.proofs.Named.{Named, accepted-named}
 use Rattle.evidence.specs.Canonical.{weighings}
-use Rattle.evidence.specs.Checks.{headIn, sectionIn, firstForest, sectionForest, forestRight, formRight, sectionFault, verdictRight, checkFault}
+use Rattle.evidence.specs.Checks.{headIn, sectionIn, firstForest, forestRight, formRight, sectionFault, verdictRight, checkFault}
 use Rattle.evidence.specs.Rules.{sectionRules, evidenceRulesWith, checkRules}
 use Rattle.evidence.proofs.Forests.{right-kept, kept-right}
 use Rattle.evidence.proofs.Weighings.{weighings-length, weighing-at, candidate-below}

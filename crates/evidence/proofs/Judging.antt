@@ -15,7 +15,7 @@ use Rattle.lists.proofs.Sums.{total-one}
 use Rattle.graph.specs.Kept.{ForestKept}
 use Rattle.picture.specs.Layout.{Edition}
 use Rattle.picture.specs.Picture.{Picture}
-use Rattle.network.specs.Words.{slotCount, blockCount, isHeld, heldWithout, joins, ServedWeight, Loss, CutsProtected, Candidate}
+use Rattle.network.specs.Words.{slotCount, blockCount, isHeld, heldWithout, joins, ServedWeight, Candidate}
 use Rattle.network.specs.Tests.{Weighed, weighed, servedWeight, candidates}
 use Rattle.network.proofs.Named.{Named}
 use Rattle.network.proofs.Weights.{served-weight, loss-weight, mark-protected, protected-mark, mark-le, weighed-block}

@@ -1,7 +1,7 @@
 -- What choose, check and show do with their buffers, on every input. Assumes nothing.
-use mathlib.Core.Bool.{Bool, _&&_, cond}
+use mathlib.Core.Bool.{_&&_, cond}
 use mathlib.Core.List.{List, [], _∷_, _++_}
-use Prim.Native.Nat.{ℕ, _/_, _-_}
+use Prim.Native.Nat.{ℕ, _/_}
 use lib.Dec.{eqb, ltb}
 use lib.ListN.{length, take, drop}
 use Rattle.lists.specs.Lists.{on, first, filter}

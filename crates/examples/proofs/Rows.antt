@@ -1,5 +1,5 @@
 -- Every row of the table is right, by computation. Assumes nothing.
-use mathlib.Core.Path.{_≡_, refl}
+use mathlib.Core.Path.{_≡_}
 use mathlib.Core.Bool.{Bool}
 use Prim.Native.Nat.{ℕ, _<_}
 use lib.Dec.{T}
@@ -23,7 +23,7 @@ use Rattle.evidence.specs.Calls.{lengthFor, chooseFault, shownPart, shown}
 use Rattle.network.specs.Rows.{isNearHeld}
 use Rattle.acts.specs.Acts.{after, blockSlots, changes, cutFault, recoverableNear, nearAfter, nearFault, actFault, putStates, doneBytes, actBytes}
 use Rattle.examples.specs.Cases.{evidenceA, caseA, caseB, caseC, caseD, caseE, caseF, caseG, caseH, caseI, caseJ, caseK, caseM}
-use Rattle.examples.specs.Table.{Question, answer, weighingNumbers, Row, slotsOnly, table}
+use Rattle.examples.specs.Table.{answer, weighingNumbers, Row, slotsOnly, table}
 
 -- its line names all that the examples compute through
 passes : Row → Bool

@@ -3,7 +3,6 @@ use mathlib.Core.List.{List, [], _∷_, _++_}
 use Prim.Native.Nat.{ℕ}
 use lib.ListN.{set, take, drop, replicate}
 use Rattle.picture.specs.Faults.{pictureFault}
-use Rattle.weigh.specs.declared.Weights.{Weights}
 use Rattle.weigh.specs.declared.Weighing.{Weighing}
 use Rattle.weigh.specs.declared.Weighing.the-variants.{Weighed, Refused}
 use Rattle.weigh.specs.Weighing.{weighing}

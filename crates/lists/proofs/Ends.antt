@@ -1,5 +1,5 @@
 -- Sums and tests over a range that grows at its end. Assumes nothing.
-use mathlib.Core.Path.{_≡_, refl, sym, ap, _∙_}
+use mathlib.Core.Path.{_≡_, sym, ap, _∙_}
 use mathlib.Core.Bool.{Bool, _||_, or-assoc, or-false}
 use mathlib.Core.List.{map}
 use Prim.Native.Nat.{ℕ, zero, suc, _+_}

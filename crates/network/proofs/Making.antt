@@ -3,20 +3,20 @@ use mathlib.Core.Path.{_≡_, refl, sym, ap, ap₂, _∙_}
 use mathlib.Core.Bool.{Bool, true, false, _&&_, _||_, and-comm, or-false}
 use mathlib.Core.Logic.{by-cases}
 use mathlib.Core.List.{List, []}
-use Prim.Native.Nat.{ℕ, zero, suc, _+_, _*_, _/_, _%_, _≤_, _<_}
+use Prim.Native.Nat.{ℕ, _+_, _*_, _≤_, _<_}
 use native.Mathlib.Omega.{arith}
 use native.Mathlib.Decide.{decLe, decLt, ℕ-discrete}
 use borrow.Author.Tests.{le-leb, lt-leb, lt-ltb, le-ltb, eq-eqb, ne-eqb}
-use lib.Dec.{T, leb, ltb, eqb}
+use lib.Dec.{leb, ltb, eqb}
 use lib.ListN.{length, getD, take, replicate, length-replicate, getD-replicate, List·getD-eq-default}
 use Rattle.lists.specs.Lists.{any}
 use Rattle.lists.proofs.Tests.{is-false}
 use Rattle.lists.proofs.Prefixes.{any-take-none, any-take-more, any-take-all}
-use Rattle.rows.specs.Rows.{bit, marked, linkedIn, With, Linked}
+use Rattle.rows.specs.Rows.{marked, linkedIn, With, Linked}
 use Rattle.rows.proofs.Marks.{none-marked}
 use Rattle.picture.specs.declared.Link.{Link}
 use Rattle.picture.specs.Rules.{noLink}
-use Rattle.network.specs.Rows.{RowsOf, BlockRow}
+use Rattle.network.specs.Rows.{RowsOf}
 
 -- a row of zeros marks nothing
 pub clear-row : (n v : ℕ) → marked (replicate n 0) v ≡ false

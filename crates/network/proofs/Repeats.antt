@@ -1,5 +1,5 @@
 -- A repeated link counts once, and so does a repeated service link: it changes nothing that the links join. Assumes nothing.
-use mathlib.Core.Path.{_≡_, refl, sym, ap, _∙_, subst₂}
+use mathlib.Core.Path.{_≡_, refl, subst₂}
 use mathlib.Core.Bool.{Bool, true, false, _&&_, _||_}
 use mathlib.Core.List.{List, _∷_}
 use Prim.Native.Nat.{ℕ}

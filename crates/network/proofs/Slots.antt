@@ -3,17 +3,17 @@ use mathlib.Core.Path.{_≡_, refl, sym, ap, _∙_, subst}
 use mathlib.Core.Bool.{Bool, true, false, _&&_, _||_}
 use mathlib.Core.Logic.{by-cases}
 use mathlib.Core.List.{List}
-use Prim.Native.Nat.{ℕ, zero, suc, _+_, _≤_, _<_, zero-le, suc-le-suc}
+use Prim.Native.Nat.{ℕ, zero, suc, _≤_, _<_, zero-le, suc-le-suc}
 use native.Mathlib.Omega.{arith}
 use native.Mathlib.Decide.{decLt}
 use native.Mathlib.Nat.{not-suc-le-zero}
 use borrow.Author.Tests.{le-leb, lt-ltb}
 use lib.Dec.{T, leb, ltb, eqb, leb→le, ltb→lt, eqb·suc-zero}
-use lib.ListN.{length, getD, List·getD-eq-default}
+use lib.ListN.{length, List·getD-eq-default}
 use Rattle.lists.specs.Lists.{item}
 use Rattle.lists.proofs.Tests.{T?, is-false, and-T}
 use Rattle.rows.specs.Rows.{marked}
-use Rattle.graph.specs.Held.{heldIn, SlotsOnly}
+use Rattle.graph.specs.Held.{heldIn}
 use Rattle.picture.specs.Picture.{Slot, Picture, slotOf}
 use Rattle.network.specs.Words.{slotCount, isHeld}
 use Rattle.network.specs.Rows.{isNearHeld, SlotRowsOf}

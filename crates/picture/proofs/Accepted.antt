@@ -1,12 +1,11 @@
 -- A picture is read exactly when it keeps the layout, and the number of a refusal is that of the first rule that is broken, in the
 -- order of document 01. Assumes nothing.
-use mathlib.Core.Path.{_≡_, refl, sym, ap, _∙_, subst}
-use mathlib.Core.Bool.{Bool, not}
+use mathlib.Core.Path.{_≡_}
 use mathlib.Core.Logic.{_≢_}
-use mathlib.Core.List.{List, [], _∷_}
-use Prim.Native.Nat.{ℕ, zero, suc, _+_, _-_, _≤_, _<_, zero-le, suc-le-suc}
+use mathlib.Core.List.{List}
+use Prim.Native.Nat.{ℕ, zero, suc, _-_, _≤_, _<_, zero-le, suc-le-suc}
 use native.Mathlib.Omega.{arith}
-use lib.Dec.{T, eqb, ltb, eqb→eq, ltb→lt, nltb→le}
+use lib.Dec.{eqb, ltb, eqb→eq, ltb→lt, nltb→le}
 use lib.ListN.{length, getD}
 use Rattle.lists.specs.Lists.{item}
 use Rattle.lists.specs.Rules.{Judged, AllHold, more, none}
@@ -14,10 +13,10 @@ use Rattle.lists.proofs.Tests.{eq-T}
 use Rattle.lists.proofs.Faults.{judge-test, judge-right, judge-each, judge-none, judged-all, all-judged, on-told, Numbered}
 use Rattle.picture.specs.declared.Header.{Header}
 use Rattle.picture.specs.declared.Link.{Link}
-use Rattle.picture.specs.Layout.{Edition, editionOf, headerWidths, fieldIn, leastBytes, noState, endAt, sizeOf}
+use Rattle.picture.specs.Layout.{Edition, editionOf, headerWidths, fieldIn, leastBytes, noState, sizeOf}
 use Rattle.picture.specs.Picture.{Slot, Picture, headerOf, pictureOf, slotOf}
 use Rattle.picture.specs.Faults.{sizesRight, countsRight, slotFault, linkFault, serviceFault, endRight, partFaults, faultsWith, pictureFault}
-use Rattle.picture.specs.Rules.{Sizes, Counts, States, Links, Services, Ends, Kept, rulesWith, rules, noLink}
+use Rattle.picture.specs.Rules.{States, Kept, rulesWith, rules, noLink}
 use Rattle.picture.proofs.Starts.{slots-length, rounded}
 use Rattle.picture.proofs.Judging.{right-sizes, sizes-right, right-counts, counts-right, right-state, state-right, right-link, link-right, right-service, service-right, right-ends, ends-right}
 

@@ -1,12 +1,12 @@
 -- What is known of an accepted picture and its header. Assumes nothing.
 use mathlib.Core.Path.{_≡_, sym, ap, _∙_, subst}
 use mathlib.Core.List.{List}
-use Prim.Native.Nat.{ℕ, _≤_}
+use Prim.Native.Nat.{ℕ}
 use lib.ListN.{length}
 use Rattle.picture.specs.declared.Header.{Header}
-use Rattle.picture.specs.Layout.{edition1, sizeOf}
-use Rattle.picture.specs.Picture.{Picture, headerOf, pictureOf, pictureWith}
-use Rattle.picture.specs.Rules.{Sizes, Counts, Links, Services, Kept, Limited}
+use Rattle.picture.specs.Layout.{edition1}
+use Rattle.picture.specs.Picture.{Picture, pictureOf, pictureWith}
+use Rattle.picture.specs.Rules.{Sizes, Counts, Links, Services, Limited}
 use Rattle.picture.specs.Answers.{Read}
 use Rattle.picture.proofs.Starts.{slots-length, endpoints-length, links-length, services-length}
 use Rattle.picture.proofs.Accepted.{accepted-kept}

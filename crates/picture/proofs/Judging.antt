@@ -1,14 +1,13 @@
 -- The tests of a picture say what its rules say. Assumes nothing.
-use mathlib.Core.Path.{_≡_, refl, sym, ap, _∙_, subst}
-use mathlib.Core.Bool.{Bool, true, false, not, _&&_, _||_}
-use mathlib.Core.Logic.{_⊎_, inl, inr, _≢_}
-use mathlib.Core.List.{List, [], _∷_, map}
-use Prim.Native.Nat.{ℕ, zero, suc, _+_, _-_, _*_, _/_, _%_, _≤_, _<_, zero-le, suc-le-suc}
+use mathlib.Core.Path.{_≡_, ap, _∙_}
+use mathlib.Core.Bool.{not, _||_}
+use mathlib.Core.Logic.{_≢_}
+use mathlib.Core.List.{List}
+use Prim.Native.Nat.{ℕ, zero, suc, _+_, _-_, _*_, _/_, _%_, _≤_, zero-le, suc-le-suc}
 use native.Mathlib.Omega.{arith}
-use native.Mathlib.Nat.{not-suc-le-zero}
 use lib.Dec.{T, T-not, not-T, eqb, leb, ltb, leb→le, eqb→eq, nltb→le}
 use borrow.Author.Tests.{le-leb, le-ltb, eq-eqb, ne-eqb}
-use lib.ListN.{length, getD}
+use lib.ListN.{length}
 use Rattle.bits.specs.Bits.{bitAt, fieldAt}
 use Rattle.bits.proofs.Reading.{fieldAt-zeros, zeros-fieldAt}
 use Rattle.lists.specs.Lists.{on}
@@ -17,9 +16,9 @@ use Rattle.lists.proofs.Faults.{on-zero, on-none}
 use Rattle.picture.specs.declared.Header.{Header}
 use Rattle.picture.specs.declared.Link.{Link}
 use Rattle.picture.specs.Layout.{Edition, edition1, blockSizeMax, blocksMax, endpointsMax, linksMax, noState, endAt, sizeOf}
-use Rattle.picture.specs.Picture.{Slot, Picture, slotOf}
+use Rattle.picture.specs.Picture.{Slot}
 use Rattle.picture.specs.Faults.{sizesRight, countsRight, slotFault, linkFault, serviceFault, endRight}
-use Rattle.picture.specs.Rules.{Sizes, Counts, States, Links, Services, Ends, Limited, noLink}
+use Rattle.picture.specs.Rules.{Sizes, Counts, Ends, Limited}
 
 -- ---- the header
 

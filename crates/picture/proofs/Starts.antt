@@ -1,5 +1,5 @@
 -- Where the fields of a picture stand in its bytes. Assumes nothing.
-use mathlib.Core.Path.{_≡_, refl, sym, ap, _∙_}
+use mathlib.Core.Path.{_≡_, sym, ap, _∙_}
 use mathlib.Core.List.{List, [], _∷_}
 use Prim.Native.Nat.{ℕ, zero, suc, _+_, _-_, _*_, _/_, _%_, _^_, _≤_, _<_}
 use native.Mathlib.Omega.{arith}
@@ -14,7 +14,7 @@ use Rattle.lists.proofs.Ranges.{length-range, getD-map-range}
 use Rattle.picture.specs.declared.Header.{Header}
 use Rattle.picture.specs.declared.Link.{Link}
 use Rattle.picture.specs.Layout.{Edition, edition1, slotWidths, endpointWidths, linkWidths, serviceWidths, headerWidths, fieldIn, slotsAt, endpointsAt, linksAt, servicesAt, endAt, sizeOf}
-use Rattle.picture.specs.Picture.{Slot, Endpoint, Picture, slotAt, endpointAt, linkAt, rows, pictureWith, slotOf, endpointOf}
+use Rattle.picture.specs.Picture.{slotAt, endpointAt, linkAt, rows, pictureWith, slotOf, endpointOf}
 use Rattle.picture.specs.Rules.{Limited, noLink}
 
 -- ---- the first two fields of a run of fields

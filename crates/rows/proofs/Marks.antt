@@ -3,7 +3,7 @@ use mathlib.Core.Bool.{Bool, true, false, not, xor, _&&_, _||_, or-false}
 use mathlib.Core.List.{List, []}
 use mathlib.Core.Logic.{inl, inr, by-cases}
 use mathlib.Core.Path.{_≡_, refl, sym, ap, ap₂, _∙_}
-use Prim.Native.Nat.{ℕ, zero, suc, _+_, _-_, _*_, _/_, _%_, _^_, _≤_, _<_}
+use Prim.Native.Nat.{ℕ, _+_, _-_, _*_, _/_, _%_, _^_, _≤_, _<_}
 use native.Mathlib.Omega.{arith}
 use native.Mathlib.Decide.{decLt, ℕ-discrete}
 use native.Mathlib.Nat.{lt-of-le-of-lt}

@@ -1,17 +1,16 @@
 -- What weighing answers, by the number of the first fault. Assumes nothing.
 use mathlib.Core.Path.{_≡_, refl, sym, ap, _∙_}
 use mathlib.Core.Logic.{_≢_}
-use mathlib.Core.List.{List, []}
+use mathlib.Core.List.{List}
 use Prim.Native.Nat.{ℕ, zero, suc, _≤_, _<_}
 use native.Mathlib.Omega.{arith}
 use borrow.Author.Tests.{le-leb, lt-leb}
-use Rattle.lists.specs.Lists.{on, first}
+use Rattle.lists.specs.Lists.{on}
 use Rattle.lists.proofs.Faults.{stop-at, skip-at, end-at}
 use Rattle.picture.specs.Picture.{pictureOf}
 use Rattle.picture.specs.Faults.{pictureFault}
 use Rattle.network.specs.Words.{blockCount}
 use Rattle.weigh.specs.declared.Weights.{Weights}
-use Rattle.weigh.specs.declared.Weighing.{Weighing}
 use Rattle.weigh.specs.declared.Weighing.the-variants.{Weighed, Refused}
 use Rattle.weigh.specs.Weighing.{blockFault, weighFault, weightsOf, weighingOf, weighing}
 

@@ -5,7 +5,6 @@ use Prim.Native.Nat.{ℕ, suc, _+_, _*_, _/_, _≤_, _<_}
 use native.Mathlib.Omega.{arith}
 use native.Mathlib.Nat.{suc-mul, le-trans, mul-le-mul-right, div-mul-le-self}
 use Rattle.picture.specs.declared.Header.{Header}
-use Rattle.picture.specs.Layout.{edition1}
 use Rattle.picture.specs.Picture.{Picture, pictureOf, pictureWith}
 use Rattle.picture.specs.Answers.{Read}
 use Rattle.picture.proofs.Facts.{read-picture, read-sizes, read-slots-length, read-endpoints-length}

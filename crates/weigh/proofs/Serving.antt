@@ -3,19 +3,18 @@
 use mathlib.Core.Path.{_≡_, refl, sym, ap, ap₂, _∙_, subst, subst₂, fun-ext}
 use mathlib.Core.Bool.{Bool, true, false, not, _&&_, _||_}
 use mathlib.Core.List.{List, [], map}
-use Prim.Native.Nat.{ℕ, zero, suc, _+_, _*_, _≤_, _<_, zero-le, suc-le-suc}
+use Prim.Native.Nat.{ℕ, zero, suc, _+_, _*_}
 use native.Mathlib.Omega.{arith}
 use borrow.Author.Tests.{lt-leb}
-use lib.Dec.{T, T-not, not-T, eqb, leb, eqb·suc-zero}
-use lib.ListN.{length, getD}
+use lib.Dec.{T, T-not, leb, eqb·suc-zero}
+use lib.ListN.{getD}
 use Rattle.lists.specs.Lists.{range, on, sum, any}
 use Rattle.lists.proofs.Tests.{and-T}
 use Rattle.rows.specs.Rows.{marked, linkedIn, Meet, Minus}
-use Rattle.graph.specs.Chains.{Reached}
 use Rattle.graph.specs.Held.{heldIn, SlotsOnly}
 use Rattle.graph.specs.Steps.{Walked}
 use Rattle.picture.specs.Picture.{Picture, endpointOf}
-use Rattle.network.specs.Words.{endpointCount, inBlock, isHeld, heldWithout, joins, weightOf, Served}
+use Rattle.network.specs.Words.{endpointCount, inBlock, isHeld, heldWithout, joins}
 use Rattle.network.specs.Tests.{marks, served, cut, weightWhere, servedWeight, weighed}
 use Rattle.network.specs.Rows.{RowsOf, SlotRowsOf, EndpointsOf, BlockRow}
 use Rattle.network.proofs.Named.{Named}

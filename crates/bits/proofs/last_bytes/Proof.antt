@@ -1,7 +1,7 @@
 -- `last_bytes` gives the 32 bits from a byte on, zeros past the end. Assumes nothing.
-use mathlib.Core.Path.{_≡_, refl, sym, ap, _∙_}
+use mathlib.Core.Path.{_≡_, sym, ap, _∙_}
 use mathlib.Core.Logic.{⊎-elim}
-use Prim.Native.Nat.{ℕ, _+_, _-_, _*_, _<_, _≤_, zero-le}
+use Prim.Native.Nat.{ℕ, _+_, _-_, _*_, _≤_, zero-le}
 use native.Mathlib.Omega.{arith}
 use borrow.Author.Needs.{needs}
 use lib.ListN.{getD, List·getD-eq-default}

@@ -1,8 +1,7 @@
 -- `is_held` tests a slot's state. Assumes nothing.
-use mathlib.Core.Path.{_≡_, refl, sym, ap, ap₂, _∙_}
+use mathlib.Core.Path.{_≡_, refl, ap, _∙_}
 use Prim.Native.Nat.{ℕ, zero, suc, _≤_}
 use native.Mathlib.Nat.{not-suc-le-zero}
-use mathlib.Core.List.{List}
 use lib.Dec.{eqb}
 use Rattle.picture.specs.Picture.{Picture, slotOf, pictureOf}
 use Rattle.picture.proofs.Facts.{read-picture, read-limited}

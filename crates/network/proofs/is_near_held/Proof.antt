@@ -1,11 +1,9 @@
 -- `is_near_held` tests a slot's state and its near mark. Assumes nothing.
-use mathlib.Core.Path.{_≡_, refl, sym, ap, ap₂, _∙_}
-use mathlib.Core.Bool.{Bool, true, false, _&&_}
+use mathlib.Core.Path.{sym, ap, _∙_}
+use mathlib.Core.Bool.{Bool, _&&_}
 use Rattle.picture.specs.Picture.{Picture, slotOf, pictureOf}
 use Rattle.picture.proofs.Facts.{read-picture, read-limited}
-use Rattle.network.specs.Words.{isHeld}
 use Rattle.network.specs.Rows.{isNearHeld}
-use borrow.Author.Needs.{needs}
 use Rattle.network.proofs.is_near_held.Statement.{statement}
 use Rattle.network.proofs.is_near_held.Tie as tie
 

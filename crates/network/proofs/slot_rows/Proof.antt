@@ -1,15 +1,12 @@
 -- `slot_rows` marks the held slots and the held near ones. Assumes nothing.
-use mathlib.Core.Path.{_≡_, refl, sym, ap, ap₂, _∙_}
+use mathlib.Core.Path.{sym, _∙_}
 use native.Mathlib.Omega.{arith}
-use mathlib.Core.Bool.{Bool, true, false}
 use mathlib.Core.List.{List}
-use Prim.Native.Nat.{ℕ, _+_, _-_, _*_, _≤_, _<_, zero-le}
-use lib.Dec.{eqb}
-use lib.ListN.{length, getD}
+use Prim.Native.Nat.{ℕ, _+_, _-_, _≤_}
 use mathlib.Core.Logic.{⊎-elim}
 use Rattle.picture.specs.declared.Header.{Header}
 use Rattle.picture.specs.Answers.{Read}
-use Rattle.picture.specs.Picture.{Picture, pictureOf, slotOf}
+use Rattle.picture.specs.Picture.{pictureOf}
 use Rattle.picture.proofs.Facts.{read-limited, read-slots-length}
 use Rattle.network.specs.Words.{isHeld}
 use Rattle.network.specs.Rows.{isNearHeld}

@@ -1,5 +1,5 @@
 -- `find_places` finds where the parts of a picture start. Assumes nothing.
-use mathlib.Core.Path.{_≡_, refl, sym, ap, _∙_}
+use mathlib.Core.Path.{refl}
 use Rattle.lists.specs.Lists.{sum}
 use Rattle.picture.specs.Layout.{placesOf, slotsAt, headerWidths, slotWidths, endpointsAt, endpointWidths, linksAt, linkWidths, servicesAt, serviceWidths, endAt}
 use borrow.Author.Needs.{needs}

@@ -1,5 +1,4 @@
 -- `header_of` reads the header's numbers. Assumes nothing.
-use mathlib.Core.Path.{_≡_, refl, sym, ap, _∙_}
 use Rattle.lists.specs.Lists.{sum}
 use Rattle.picture.specs.Layout.{headerWidths, fieldIn}
 use Rattle.picture.specs.Picture.{headerIn}

@@ -1,9 +1,8 @@
 -- `link_at` reads two adjacent fields as one. Assumes nothing.
-use mathlib.Core.Path.{_≡_, refl, sym, ap, _∙_}
-use Prim.Native.Nat.{ℕ, _+_, _-_, _*_, _/_, _%_, _^_}
+use mathlib.Core.Path.{ap, _∙_}
+use Prim.Native.Nat.{ℕ, _-_, _/_, _^_}
 use native.Mathlib.Omega.{arith}
 use Rattle.bits.proofs.Masks.{mask-made, masked}
-use Rattle.picture.specs.declared.Link.{Link}
 use Rattle.picture.proofs.Starts.{link-halves}
 use borrow.Author.Needs.{needs}
 use Rattle.picture.proofs.link_at.Statement.{statement}

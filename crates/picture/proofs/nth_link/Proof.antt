@@ -1,11 +1,10 @@
 -- `nth_link` reads a link of the picture. Assumes nothing.
-use mathlib.Core.Path.{_≡_, refl, sym, ap, _∙_}
-use Prim.Native.Nat.{ℕ, _+_, _-_, _*_, _/_, _%_, _^_}
+use mathlib.Core.Path.{sym, ap, _∙_}
+use Prim.Native.Nat.{_+_, _-_, _*_}
 use native.Mathlib.Omega.{arith}
 use Rattle.lists.specs.Lists.{sum}
 use Rattle.picture.specs.Layout.{edition1, placesOf, linkWidths}
 use Rattle.picture.specs.Picture.{linkAt}
-use Rattle.picture.specs.declared.Link.{Link}
 use Rattle.picture.specs.declared.Places.{Places}
 use Rattle.picture.proofs.Starts.{ordered, link-row}
 use borrow.Author.Needs.{needs}

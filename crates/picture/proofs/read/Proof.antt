@@ -1,12 +1,8 @@
 -- `read` answers by the number of the first fault. Assumes nothing.
-use mathlib.Core.Path.{_≡_, refl, sym, ap, _∙_}
-use Prim.Native.Nat.{ℕ, zero, suc}
-use mathlib.Core.Logic.{_≢_}
-use Rattle.picture.specs.declared.Header.{Header}
-use Rattle.picture.specs.declared.Reading.{Reading}
-use Rattle.picture.specs.declared.Reading.the-variants.{Accepted, Refused}
+use mathlib.Core.Path.{sym, ap, _∙_}
+use Prim.Native.Nat.{ℕ}
+use Rattle.picture.specs.declared.Reading.the-variants.{Accepted}
 use Rattle.picture.specs.Picture.{headerOf}
-use Rattle.picture.specs.Faults.{pictureFault}
 use Rattle.picture.specs.Answers.{readingOf, reading}
 use Rattle.picture.proofs.Answering.{told-accepted, told-refused}
 use borrow.Author.Needs.{needs}

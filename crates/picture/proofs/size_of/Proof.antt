@@ -1,5 +1,5 @@
 -- `size_of` counts the bytes that a header asks for. Assumes nothing.
-use mathlib.Core.Path.{_≡_, refl, sym, ap, _∙_}
+use mathlib.Core.Path.{ap}
 use native.Mathlib.Omega.{arith}
 use Prim.Native.Nat.{_+_, _/_}
 use Rattle.picture.specs.Layout.{placesOf, sizeOf}

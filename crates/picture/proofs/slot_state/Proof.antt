@@ -1,5 +1,5 @@
 -- `slot_state` reads a slot's state. Assumes nothing.
-use mathlib.Core.Path.{_≡_, refl, sym, ap, _∙_}
+use mathlib.Core.Path.{sym, ap, _∙_}
 use Rattle.lists.specs.Lists.{sum}
 use Rattle.picture.specs.Layout.{edition1, slotsAt, headerWidths, slotWidths}
 use Rattle.picture.specs.Picture.{Slot, slotAt}

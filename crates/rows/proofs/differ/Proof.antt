@@ -1,7 +1,7 @@
 -- `differ` compares two rows word by word. Assumes nothing.
-use mathlib.Core.Path.{_≡_, refl, sym, ap, _∙_}
-use mathlib.Core.Bool.{Bool, not, xor, _&&_}
-use Prim.Native.Nat.{ℕ, _-_}
+use mathlib.Core.Path.{_≡_, refl}
+use mathlib.Core.Bool.{xor}
+use Prim.Native.Nat.{_-_}
 use native.Mathlib.Omega.{arith}
 use lib.Bits.{bitXor}
 use Rattle.rows.proofs.Marks.{Made, made-next, made-marks}

@@ -1,7 +1,7 @@
 -- `minus` takes one row's marks from another's, word by word. Assumes nothing.
-use mathlib.Core.Path.{_≡_, refl, sym, ap, _∙_}
-use mathlib.Core.Bool.{Bool, not, xor, _&&_}
-use Prim.Native.Nat.{ℕ, _-_}
+use mathlib.Core.Path.{_≡_, refl}
+use mathlib.Core.Bool.{not, _&&_}
+use Prim.Native.Nat.{_-_}
 use native.Mathlib.Omega.{arith}
 use Rattle.rows.proofs.Marks.{lessWord, digit-less, Made, made-next, made-marks}
 use borrow.Author.Needs.{needs}

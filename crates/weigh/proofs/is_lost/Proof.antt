@@ -1,6 +1,6 @@
 -- `is_lost` compares a row with two others. Assumes nothing.
-use mathlib.Core.Path.{_≡_, refl, sym, ap, ap₂, _∙_}
-use mathlib.Core.Bool.{Bool, true, false, not, _&&_}
+use mathlib.Core.Path.{sym, ap, ap₂, _∙_}
+use mathlib.Core.Bool.{Bool, not, _&&_}
 use Rattle.weigh.proofs.Picking.{meet-one}
 use borrow.Author.Needs.{needs}
 use Rattle.weigh.proofs.is_lost.Statement.{statement}

@@ -1,5 +1,5 @@
 -- `is_lost_protected` looks at the mark of a lost endpoint. Assumes nothing.
-use mathlib.Core.Path.{_≡_, refl, sym, ap, ap₂, _∙_}
+use mathlib.Core.Path.{_≡_, refl, sym, ap, _∙_}
 use mathlib.Core.Bool.{Bool, true, false, _&&_}
 use Rattle.rows.specs.Rows.{marked}
 use borrow.Author.Needs.{needs}

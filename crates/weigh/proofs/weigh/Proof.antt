@@ -1,12 +1,9 @@
 -- `weigh` weighs a block of any bytes. Assumes nothing.
-use mathlib.Core.Path.{_≡_, refl, sym, ap, ap₂, _∙_}
+use mathlib.Core.Path.{sym, ap, _∙_}
 use native.Mathlib.Omega.{arith}
-use Prim.Native.Nat.{_≤_, _<_}
 use Rattle.picture.specs.Answers.{Read}
-use Rattle.picture.specs.Picture.{pictureOf}
 use Rattle.picture.proofs.Answering.{accepted-read, refused-fault}
 use Rattle.picture.proofs.Facts.{read-sizes}
-use Rattle.network.specs.Words.{blockCount}
 use Rattle.weigh.specs.declared.Weighing.the-variants.{Weighed}
 use Rattle.weigh.proofs.Blocks.{read-blocks}
 use Rattle.weigh.proofs.Answering.{weigh-faulty, weigh-no-block, weigh-told}

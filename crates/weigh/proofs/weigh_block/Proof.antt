@@ -1,17 +1,13 @@
 -- `weigh_block` weighs a block of an accepted picture. Assumes nothing.
-use mathlib.Core.Path.{_≡_, refl, sym, ap, ap₂, _∙_}
-use native.Mathlib.Omega.{arith}
-use mathlib.Core.Bool.{Bool}
-use mathlib.Core.List.{List}
+use mathlib.Core.Path.{_≡_}
 use Prim.Native.Nat.{ℕ, _≤_}
 use lib.Dec.{T, T-not}
 use lib.ListN.{length, replicate}
-use Rattle.rows.specs.Rows.{marked, linkedIn}
-use Rattle.graph.specs.Held.{heldIn}
+use Rattle.rows.specs.Rows.{marked}
 use Rattle.graph.specs.Steps.{Walked}
-use Rattle.picture.specs.Picture.{Picture, pictureOf}
+use Rattle.picture.specs.Picture.{pictureOf}
 use Rattle.picture.proofs.Facts.{read-limited}
-use Rattle.network.specs.Words.{isHeld, heldWithout, joins, weightOf}
+use Rattle.network.specs.Words.{isHeld, heldWithout, joins}
 use Rattle.network.specs.Rows.{BlockRow}
 use Rattle.network.proofs.Named.{accepted-named}
 use Rattle.network.proofs.Weights.{weight-small}
