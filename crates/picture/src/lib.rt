@@ -2,10 +2,11 @@
 ghost use mathlib.Core.Path.{_≡_};
 ghost use mathlib.Core.Bool.{Bool};
 ghost use mathlib.Core.List.{[], _∷_, map};
-ghost use Prim.Native.Nat.{_+_, _≤_, _<_};
+ghost use Prim.Native.Nat.{_+_, _-_, _*_, _≤_, _<_};
 ghost use lib.ListN.{length, getD};
-ghost use Rattle.lists.specs.Lists.{first};
-ghost use Rattle.picture.specs.Layout.{edition1, placesOf, sizeOf};
+ghost use Rattle.bits.specs.Bits.{putField};
+ghost use Rattle.lists.specs.Lists.{first, sum};
+ghost use Rattle.picture.specs.Layout.{edition1, slotWidths, slotsAt, placesOf, sizeOf};
 ghost use Rattle.picture.specs.Picture.{headerIn, linkAt, pictureWith, slotOf, endpointOf};
 ghost use Rattle.picture.specs.Faults.{sizesRight, countsRight, slotFault, linkFault, serviceFault, endRight, partFaults, pictureFault};
 ghost use Rattle.picture.specs.Rules.{Limited, noLink};
@@ -199,6 +200,14 @@ pub fn slot_state(s: &[u8], h: Header, v: usize) -> usize
     ensures { λ r. ⌜ r ≡ slotOf (pictureWith edition1 h (now (s .entry))) v .state ⌝ }
 {
     bits::field(s, HEADER_BITS + (v - 1) * SLOT_ROW, STATE_BITS)
+}
+
+// The state of slot v becomes this one: its two bits only.
+pub fn put_state(s: &mut [u8], h: Header, v: usize, state: usize)
+    requires { ⌜ Limited h × (1 ≤ v) × (v ≤ h .slots) × (sizeOf edition1 h ≤ length (now s)) ⌝ }
+    ensures { λ _. ⌜ now (s .exit) ≡ putField (now (s .entry)) (slotsAt edition1 + (v - 1) * sum slotWidths) 2 state ⌝ }
+{
+    bits::put_field(s, HEADER_BITS + (v - 1) * SLOT_ROW, STATE_BITS, state);
 }
 
 // Whether slot v is near.
