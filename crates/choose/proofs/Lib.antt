@@ -1,0 +1,12 @@
+-- Laws of choosing.
+pub mod Growing
+pub mod Writing
+pub mod Nodes
+pub mod Heads
+pub mod Least
+pub mod Counting
+pub mod Lengths
+pub mod Sections
+pub mod Gathering
+pub mod Evidence
+pub mod Answering

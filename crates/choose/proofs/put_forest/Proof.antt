@@ -1,0 +1,93 @@
+-- `put_forest` writes the nodes, slot by slot. Assumes nothing.
+use mathlib.Core.Path.{_≡_}
+use mathlib.Core.List.{List}
+use Prim.Native.Nat.{ℕ, _+_, _-_, _*_, _≤_, _<_}
+use native.Mathlib.Omega.{arith}
+use lib.ListN.{length, length-set}
+use Rattle.picture.specs.Layout.{edition1}
+use Rattle.evidence.specs.Canonical.{forestFields}
+use Rattle.choose.specs.Writing.{Put, nodesIn}
+use Rattle.choose.proofs.Nodes.{nodes-begun, nodes-next}
+use borrow.Author.Needs.{needs}
+use Rattle.choose.proofs.put_forest.Statement.{statement}
+use Rattle.choose.proofs.put_forest.Tie as tie
+
+record Loop (buf₀ : List ℕ) (at n : ℕ) (parent depth buf : List ℕ) (v : ℕ) : Type 0 where
+  pub within : v ≤ n
+  pub put : Put buf₀ (at * 8) (forestFields edition1 (nodesIn parent depth v)) buf
+
+abbrev Inv-loop : tie.InvT-loop
+Inv-loop buf₀ at n parent depth v₀ buf v = Loop buf₀ at n parent depth buf v
+
+abbrev μ-loop : tie.MeasureT-loop
+μ-loop buf₀ at n parent depth v₀ buf v = n - v
+
+-- a node more has its place
+room : (c : tie.At-loop Inv-loop μ-loop) → c .loop .v < c .before .args .n → c .before .args .at + c .loop .v * 2 + 1 < length (c .loop .buf)
+room c l = omega (arith, c .loop .inv .put .long)
+
+loop-holds : tie.Need-loop-holds Inv-loop μ-loop
+loop-holds c = record { within = omega arith; put = nodes-begun _ _ _ _ }
+
+mul-q : tie.Need-mul-q Inv-loop μ-loop
+mul-q c = search needs
+
+add-q : tie.Need-add-q Inv-loop μ-loop
+add-q c = search needs
+
+add-v : tie.Need-add-v Inv-loop μ-loop
+add-v c = search needs
+
+shared-slice-read-buf : tie.Need-shared-slice-read-buf Inv-loop μ-loop
+shared-slice-read-buf c = search needs
+
+slice-write-buf : tie.Need-slice-write-buf Inv-loop μ-loop
+slice-write-buf c = omega (arith, room (c .before .before) (omega arith))
+
+shared-slice-read-buf-2 : tie.Need-shared-slice-read-buf-2 Inv-loop μ-loop
+shared-slice-read-buf-2 c = search needs
+
+add-buf : tie.Need-add-buf Inv-loop μ-loop
+add-buf c = search needs
+
+slice-write-buf-2 : tie.Need-slice-write-buf-2 Inv-loop μ-loop
+slice-write-buf-2 c = simp length-set (room (c .before .before .before) (omega arith))
+
+loop-less : tie.Need-loop-less Inv-loop μ-loop
+loop-less c = search needs
+
+loop-again : tie.Need-loop-again Inv-loop μ-loop
+loop-again c =
+    let l = c .before .before .before in
+    record {
+      within = omega arith;
+      put = nodes-next _ _ _ _ (l .before .args .at) (l .loop .v) (l .loop .inv .put) (room l (omega arith)) (omega (arith, c .before .shared-slice-known .given (l .loop .v + 1))) (omega (arith, c .shared-slice-known2 .given (l .loop .v + 1)));
+    }
+
+same-length : tie.Need-same-length Inv-loop μ-loop
+same-length c = c .before .loop .inv .put .long
+
+returns : tie.Need-returns Inv-loop μ-loop
+returns c =
+    let e : c .before .loop .v ≡ c .before .before .args .n = omega (arith, c .before .loop .inv .within) in
+    rw (← e) (c .before .loop .inv .put)
+
+pub put-forest-spec : {M : Type 1} → statement M
+put-forest-spec =
+    tie.close
+    (tie.spec
+    Inv-loop
+    μ-loop
+    loop-holds
+    mul-q
+    add-q
+    add-v
+    shared-slice-read-buf
+    slice-write-buf
+    shared-slice-read-buf-2
+    add-buf
+    slice-write-buf-2
+    loop-less
+    loop-again
+    same-length
+    returns)

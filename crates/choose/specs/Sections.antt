@@ -1,0 +1,99 @@
+-- The candidates, the choice among them and their sections, by the rows of an accepted picture. Assumes nothing.
+use mathlib.Core.Bool.{_&&_, _||_, cond}
+use mathlib.Core.List.{List, map}
+use mathlib.Core.Path.{_≡_}
+use Prim.Native.Nat.{ℕ, _+_, _*_, _≤_, _<_}
+use lib.Dec.{eqb, ltb}
+use lib.ListN.{length}
+use Rattle.lists.specs.Lists.{flat}
+use Rattle.rows.specs.Rows.{marked}
+use Rattle.graph.specs.Held.{heldIn, SlotsOnly}
+use Rattle.graph.specs.Steps.{Walked}
+use Rattle.picture.specs.declared.Header.{Header}
+use Rattle.picture.specs.Layout.{edition1}
+use Rattle.picture.specs.Picture.{Picture, pictureOf}
+use Rattle.picture.specs.Answers.{Read}
+use Rattle.network.specs.Words.{blockCount, isHeld, heldWithout, joins}
+use Rattle.network.specs.Tests.{Weighed, weighed, candidates}
+use Rattle.network.specs.Rows.{RowsOf, SlotRowsOf, EndpointsOf}
+use Rattle.evidence.specs.Canonical.{Choice, weighings, least, sectionFields}
+use Rattle.evidence.specs.Calls.{lengthFor}
+use Rattle.choose.specs.declared.Choice.{Choice as Kept}
+use Rattle.choose.specs.Writing.{Put}
+
+-- ---- the choice
+
+-- the choice that the code keeps
+unfoldable pub choiceOf : Kept → Choice
+choiceOf c = record { verdict = c .verdict; block = c .block; loss = c .loss }
+
+-- the choice with one candidate more, whose number is above all before: it is taken where it cuts no protected endpoint, and nothing or
+-- more was lost before
+unfoldable pub bettered : Choice → Weighed → Choice
+bettered c w =
+    let this : Choice = record { verdict = 1; block = w .block; loss = w .loss } in
+    cond (eqb (w .mark) 0 && (eqb (c .verdict) 0 || ltb (w .loss) (c .loss))) this c
+
+-- ---- the candidates
+
+-- the number of candidates of every picture that has these blocks and this row of near slots
+pub record Counted (size blocks : ℕ) (nearby : List ℕ) (count : ℕ) : Type 0 where
+  pub most : count ≤ blocks
+  pub same : (p : Picture) (holding : List ℕ) → SlotRowsOf p holding nearby → p .blockSize ≡ size → blockCount p ≡ blocks → count ≡ length (candidates p)
+
+-- ---- the sections
+
+-- the rows of an accepted picture that weighing a block takes, and the row of what is reached now
+pub record WeighRows (bs : List ℕ) (h : Header) (linkTable serviceTable : List (List ℕ)) (weights guarded reached : List ℕ) : Type 0 where
+  pub read : Read bs h
+  pub links : RowsOf (joins (pictureOf bs .links)) linkTable
+  pub services : RowsOf (λ c a. joins (pictureOf bs .services) a c) serviceTable
+  pub ends : EndpointsOf (pictureOf bs) weights guarded
+  pub parents : List ℕ
+  pub depths : List ℕ
+  pub now : Walked (joins (pictureOf bs .links)) (isHeld (pictureOf bs)) (marked reached) parents depths
+
+-- a row of the slots that are held without block b
+pub record Left (p : Picture) (b : ℕ) (left : List ℕ) : Type 0 where
+  pub slots : SlotsOnly left
+  pub held : (v : ℕ) → heldIn left v ≡ heldWithout p b v
+
+-- there is room for c sections from byte q on; the bound keeps a bit's place in the numbers of the code
+pub record Room (n q c : ℕ) (bs : List ℕ) : Type 0 where
+  pub fits : q + c * (5 + n * 2) ≤ length bs
+  pub low : q + c * (5 + n * 2) ≤ 30000
+
+-- what a section needs: the rows of some picture, a block, and room
+pub record SectionReady (h : Header) (linkTable serviceTable : List (List ℕ)) (weights guarded reached rest : List ℕ) (b q : ℕ) (buf : List ℕ) : Type 0 where
+  pub bytes : List ℕ
+  pub rows : WeighRows bytes h linkTable serviceTable weights guarded reached
+  pub block : b < blockCount (pictureOf bytes)
+  pub left : Left (pictureOf bytes) b rest
+  pub room : Room (h .slots) q 1 buf
+
+-- the section of block b stands from byte q on, and its loss and mark are told
+pub record SectionDone (p : Picture) (b q : ℕ) (buf buf′ : List ℕ) (lost told : ℕ) : Type 0 where
+  pub put : Put buf (q * 8) (sectionFields edition1 p (weighed p b)) buf′
+  pub loss : lost ≡ weighed p b .loss
+  pub mark : told ≡ weighed p b .mark
+
+-- what the sections need: the rows of some picture, and room for those of all candidates
+pub record SectionsReady (h : Header) (linkTable serviceTable : List (List ℕ)) (weights guarded holding nearby reached : List ℕ) (at : ℕ) (buf : List ℕ) : Type 0 where
+  pub bytes : List ℕ
+  pub rows : WeighRows bytes h linkTable serviceTable weights guarded reached
+  pub slots : SlotRowsOf (pictureOf bytes) holding nearby
+  pub room : Room (h .slots) at (length (candidates (pictureOf bytes))) buf
+
+-- the sections of all candidates stand from byte `at` on, and the choice is the picture's
+pub record Sectioned (p : Picture) (at : ℕ) (buf buf′ : List ℕ) (best : Choice) : Type 0 where
+  pub put : Put buf (at * 8) (flat (map (sectionFields edition1 p) (weighings p))) buf′
+  pub choice : best ≡ least (weighings p)
+
+-- ---- the evidence
+
+-- what writing the evidence needs: the rows of the slots, the number of candidates, and room
+pub record EvidenceReady (bs : List ℕ) (h : Header) (holding nearby : List ℕ) (count : ℕ) (buf : List ℕ) : Type 0 where
+  pub read : Read bs h
+  pub slots : SlotRowsOf (pictureOf bs) holding nearby
+  pub counted : count ≡ length (candidates (pictureOf bs))
+  pub room : lengthFor bs ≤ length buf
