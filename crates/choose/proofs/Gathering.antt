@@ -10,7 +10,6 @@ use lib.ListN.{length, length-append, length-map}
 use Rattle.lists.specs.Lists.{range, filter, flat}
 use Rattle.packing.specs.Holding.{span}
 use Rattle.packing.proofs.Fields.{span-append, span-flat}
-use Rattle.graph.proofs.Nodes.{length-forest}
 use Rattle.picture.specs.Layout.{edition1}
 use Rattle.picture.specs.Picture.{Picture}
 use Rattle.network.specs.Words.{slotCount, blockCount, heldWithout}
@@ -22,21 +21,18 @@ use Rattle.choose.specs.Writing.{Put}
 use Rattle.choose.specs.Sections.{bettered, Room, SectionDone, Sectioned}
 use Rattle.choose.proofs.Growing.{map-append, flat-map-more, filter-more, filter-grows}
 use Rattle.choose.proofs.Writing.{put-none, put-behind, put-same}
+use Rattle.evidence.proofs.Fields.{length-forest-of}
 use Rattle.choose.proofs.Nodes.{span-forest}
 use Rattle.choose.proofs.Least.{least-more}
 use Rattle.choose.proofs.Lengths.{sections-bits}
 
 -- ---- widths
 
-pub length-forestOf : (p : Picture) (held : ℕ → Bool) → length (forestOf p held) ≡ slotCount p
-unfolding forestOf
-length-forestOf p held = length-forest _ held (slotCount p)
-
 span-section : (p : Picture) (w : Weighed) → span (sectionFields edition1 p w) ≡ 40 + slotCount p * 16
 unfolding sectionFields sectionWidths fieldsOf span
 span-section p w =
     span-append (fieldsOf sectionWidths (w .block ∷ w .loss ∷ w .mark ∷ [])) (forestFields edition1 (forestOf p (heldWithout p (w .block))))
-    ∙ ap (λ (x : ℕ). 40 + x) (span-forest (forestOf p (heldWithout p (w .block))) ∙ ap (λ (n : ℕ). n * 16) (length-forestOf p (heldWithout p (w .block))))
+    ∙ ap (λ (x : ℕ). 40 + x) (span-forest (forestOf p (heldWithout p (w .block))) ∙ ap (λ (n : ℕ). n * 16) (length-forest-of p (heldWithout p (w .block))))
 
 pub span-sections : (p : Picture) (ws : List Weighed) → span (flat (map (sectionFields edition1 p) ws)) ≡ length ws * (5 + slotCount p * 2) * 8
 span-sections p ws = span-flat (sectionFields edition1 p) (40 + slotCount p * 16) (span-section p) ws ∙ sections-bits (slotCount p) (length ws)

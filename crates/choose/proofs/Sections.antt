@@ -2,7 +2,7 @@
 use mathlib.Core.Path.{_≡_, refl, sym, ap, ap₂, _∙_}
 use mathlib.Core.Bool.{Bool}
 use mathlib.Core.List.{List, [], _∷_, _++_}
-use Prim.Native.Nat.{ℕ, _*_, _/_, _^_, _≤_, _<_}
+use Prim.Native.Nat.{ℕ, _*_, _/_, _≤_, _<_}
 use native.Mathlib.Omega.{arith}
 use lib.ListN.{length}
 use Rattle.rows.specs.Rows.{marked, linkedIn, Meet, Minus}
@@ -18,12 +18,13 @@ use Rattle.network.specs.Words.{slotCount, blockCount, heldWithout, joins}
 use Rattle.network.specs.Tests.{weighed, isCandidate}
 use Rattle.network.specs.Rows.{SlotRowsOf, BlockRow}
 use Rattle.network.proofs.Named.{Named, accepted-named}
-use Rattle.network.proofs.Weights.{weight-small, weights-small, mark-le}
+use Rattle.network.proofs.Weights.{weight-small, mark-le}
 use Rattle.weigh.specs.Sums.{Small, LostBetween}
 use Rattle.weigh.proofs.Blocks.{read-block-size, read-slots, read-endpoints, read-blocks}
 use Rattle.weigh.proofs.Serving.{walked-over, left-slots, left-held, loss-value, mark-value}
 use Rattle.evidence.specs.Layout.{sectionWidths}
 use Rattle.evidence.specs.Canonical.{fieldsOf, forestFields, forestOf, sectionFields}
+use Rattle.evidence.proofs.Fields.{loss-small}
 use Rattle.choose.specs.Writing.{Put, nodesIn, arraySection, SectionFits}
 use Rattle.choose.specs.Sections.{WeighRows, Left, Room, SectionDone}
 use Rattle.choose.proofs.Writing.{put-same}
@@ -52,11 +53,6 @@ module _ {bs : List ℕ} {h : Header} (r : Read bs h) {b : ℕ} {holding nearby 
         slots = left-slots (pictureOf bs) b holding nearby row rest s own-row m;
         held = left-held (pictureOf bs) b holding nearby row rest s own-row m;
       }
-
--- a loss is a field of 24 bits
-pub loss-small : (bs : List ℕ) (h : Header) → Read bs h → (b : ℕ) → weighed (pictureOf bs) b .loss < 2 ^ 24
-unfolding weighed
-loss-small bs h r b = weights-small bs (r .accepted) _
 
 module _ {bs : List ℕ} {h : Header} {linkTable serviceTable : List (List ℕ)} {weights guarded reached : List ℕ} (r : WeighRows bs h linkTable serviceTable weights guarded reached) where
   -- what the sums need of the rows
@@ -109,7 +105,7 @@ module _ {bs : List ℕ} {h : Header} {linkTable serviceTable : List (List ℕ)}
             room = omega (arith, o .fits);
             low = omega (arith, o .low);
             number = omega (arith, blocks-few bs h (r .read));
-            loss = rw lost-loss (loss-small bs h (r .read) b);
+            loss = rw lost-loss (loss-small bs (r .read .accepted) b);
             mark = rw told-mark (omega (arith, mark-le (pictureOf bs) b));
             more-parents = omega (arith, read-limited bs h (r .read) .slots);
             more-depths = omega (arith, read-limited bs h (r .read) .slots);
