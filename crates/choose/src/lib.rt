@@ -15,6 +15,21 @@ ghost use Rattle.evidence.specs.Calls.{lengthFor, chosenBytes};
 ghost use Rattle.choose.specs.Answers.{choosing};
 ghost use Rattle.choose.specs.Writing.{Put, nodesIn, arraySection, SectionFits, HeadFits};
 ghost use Rattle.choose.specs.Sections.{choiceOf, bettered, Counted, WeighRows, Left, SectionReady, SectionDone, SectionsReady, Sectioned, EvidenceReady};
+use evidence::BLOCK_AT;
+use evidence::BLOCK_BITS;
+use evidence::BYTE_BITS;
+use evidence::COUNT_AT;
+use evidence::COUNT_BITS;
+use evidence::EDITION;
+use evidence::EDITION_BITS;
+use evidence::HEAD_BYTES;
+use evidence::LOSS_AT;
+use evidence::MARK_BITS;
+use evidence::NODE_BYTES;
+use evidence::SECTION_BYTES;
+use evidence::SERVED_AT;
+use evidence::VERDICT_BITS;
+use evidence::WEIGHT_BITS;
 use network::ENDPOINTS;
 use network::SlotRows;
 use picture::Header;
@@ -22,41 +37,6 @@ use picture::Reading;
 use rows::LOCATIONS;
 use rows::WORDS;
 use weigh::Lost;
-
-// Widths in bits, in the order of the fields.
-const EDITION_BITS: usize = 4;
-
-const VERDICT_BITS: usize = 4;
-
-const BLOCK_BITS: usize = 8;
-
-const COUNT_BITS: usize = 8;
-
-const WEIGHT_BITS: usize = 24;
-
-const MARK_BITS: usize = 8;
-
-const LOCATION_BITS: usize = 8;
-
-// Where the fields of the head start.
-const BLOCK_AT: usize = EDITION_BITS + VERDICT_BITS;
-
-const COUNT_AT: usize = BLOCK_AT + BLOCK_BITS;
-
-const SERVED_AT: usize = COUNT_AT + COUNT_BITS;
-
-const LOSS_AT: usize = SERVED_AT + WEIGHT_BITS;
-
-// The bytes of the head, of a node, and of what a section has before its forest.
-const BYTE_BITS: usize = 8;
-
-const HEAD_BYTES: usize = (LOSS_AT + WEIGHT_BITS) / BYTE_BITS;
-
-const NODE_BYTES: usize = (LOCATION_BITS + LOCATION_BITS) / BYTE_BITS;
-
-const SECTION_BYTES: usize = (BLOCK_BITS + WEIGHT_BITS + MARK_BITS) / BYTE_BITS;
-
-const EDITION: usize = 1;
 
 // What choose answers.
 pub enum Choosing {
