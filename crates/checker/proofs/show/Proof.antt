@@ -1,0 +1,42 @@
+-- `show` hands back the part. Assumes nothing.
+use mathlib.Core.Path.{_≡_, ap₂}
+use Prim.Native.Nat.{ℕ, _+_, _-_, _≤_}
+use native.Mathlib.Omega.{arith}
+use lib.ListN.{length, take, drop}
+use Rattle.evidence.specs.Calls.{shownPart, shown}
+use Rattle.checker.proofs.Showing.{shown-room}
+use borrow.Author.Needs.{needs}
+use Rattle.checker.proofs.show.Statement.{statement}
+use Rattle.checker.proofs.show.Tie as tie
+
+-- the part is within the evidence
+room : (c : tie.After-shown-part) → c .shown-part .result .start + c .shown-part .result .size ≤ length (c .before .before .before .args .ev .now)
+room c = rw (c .shown-part .ensures .0, c .shown-part .ensures .1) (shown-room (c .before .before .before .args .s .now) (c .before .before .before .args .ev .now))
+
+shown-part-requires : tie.Need-shown-part-requires
+shown-part-requires c κs = search needs
+
+add-end : tie.Need-add-end
+add-end c = omega (arith, room (c .before))
+
+sub-result : tie.Need-sub-result
+sub-result c = search needs
+
+part-result-start : tie.Need-part-result-start
+part-result-start c = search needs
+
+part-result-end : tie.Need-part-result-end
+part-result-end c = room (c .before)
+
+returns : tie.Need-returns
+unfolding shown
+returns c =
+    let r = c .before .before .shown-part in
+    let a = c .before .before .before .before .before .args in
+    let e : r .result .start + r .result .size - r .result .start ≡ shownPart (a .s .now) (a .ev .now) .size = omega (arith, r .ensures .1) in
+    ap₂ (λ (k i : ℕ). take k (drop i (a .ev .now))) e (r .ensures .0)
+
+pub show-spec : {M : Type 1} → statement M
+show-spec =
+    tie.close
+    (tie.spec shown-part-requires add-end sub-result part-result-start part-result-end returns)

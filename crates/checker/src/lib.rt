@@ -1,0 +1,113 @@
+// Checking evidence from anywhere against a picture. It follows the forests that the evidence brings and never searches for a chain.
+ghost use mathlib.Core.Path.{_≡_};
+ghost use Rattle.picture.specs.Answers.{Read};
+ghost use Rattle.evidence.specs.Checks.{checkFault};
+ghost use Rattle.evidence.specs.Calls.{shown, shownPart};
+ghost use Rattle.checker.specs.Answers.{checking};
+
+mod following;
+mod forming;
+mod layout;
+
+use layout::BLOCK_BITS;
+use layout::CHOSEN_AT;
+use layout::COUNT_AT;
+use layout::COUNT_BITS;
+use layout::FORM;
+use layout::NODE_BITS;
+use layout::SECTION_BITS;
+use layout::VERDICT;
+use layout::VERDICT_AT;
+use layout::VERDICT_BITS;
+use picture::Header;
+use picture::Reading;
+
+// What check answers.
+pub enum Checking {
+    Passed,
+    Refused(u8),
+}
+
+// A part of the evidence, in bytes.
+struct Part {
+    start: usize,
+    size: usize,
+}
+
+// The number of the first fault in the evidence for an accepted picture, or 0.
+fn evidence_fault(s: &[u8], h: Header, ev: &[u8]) -> u8
+    requires { ⌜ Read (now s) h ⌝ }
+    ensures { λ r. ⌜ r ≡ checkFault (now (s .entry)) (now (ev .entry)) ⌝ }
+{
+    let n = h.slots;
+    let size = h.block_size;
+    let rows = network::slot_rows(s, h);
+    let held = rows.held;
+    let near = rows.near;
+    let f = forming::form_of(ev, n, size, n / size, near);
+    let right = f.right;
+    let count = f.count;
+    if !right {
+        return FORM;
+    }
+    let fault = following::parts_fault(s, h, ev, held, count);
+    if fault != 0 {
+        return fault;
+    }
+    if forming::verdict_right(ev, n, count) {
+        return 0;
+    }
+    VERDICT
+}
+
+// Checks evidence from anywhere against a picture: passed, or refused with the number of the first fault.
+pub fn check(s: &[u8], ev: &[u8]) -> Checking
+    ensures { λ r. ⌜ r ≡ checking (now (s .entry)) (now (ev .entry)) ⌝ }
+{
+    match picture::read(s) {
+        Reading::Refused(number) => Checking::Refused(number),
+        Reading::Accepted(h) => {
+            let fault = evidence_fault(s, h, ev);
+            if fault == 0 {
+                return Checking::Passed;
+            }
+            Checking::Refused(fault)
+        }
+    }
+}
+
+// The part that show gives: the chosen candidate's section, or the empty part where the check fails or the verdict is none.
+fn shown_part(s: &[u8], ev: &[u8]) -> Part
+    ensures { λ r. ⌜ (r .start ≡ shownPart (now (s .entry)) (now (ev .entry)) .start) × (r .size ≡ shownPart (now (s .entry)) (now (ev .entry)) .size) ⌝ }
+{
+    match picture::read(s) {
+        Reading::Refused(_) => Part { start: 0, size: 0 },
+        Reading::Accepted(h) => {
+            let n = h.slots;
+            let fault = evidence_fault(s, h, ev);
+            if fault != 0 {
+                return Part { start: 0, size: 0 };
+            }
+            if bits::field(ev, VERDICT_AT, VERDICT_BITS) != 1 {
+                return Part { start: 0, size: 0 };
+            }
+            let count = bits::field(ev, COUNT_AT, COUNT_BITS);
+            let b = bits::field(ev, CHOSEN_AT, BLOCK_BITS);
+            let i = forming::sections_below(ev, n, count, b);
+            Part {
+                start: forming::section_at(n, i) / 8,
+                size: (SECTION_BITS + n * NODE_BITS) / 8,
+            }
+        }
+    }
+}
+
+// The chosen candidate's section of the evidence, or its empty part.
+pub fn show<'p, 'e>(s: &'p [u8], ev: &'e [u8]) -> &'e [u8]
+    ensures { λ r. ⌜ now r ≡ shown (now (s .entry)) (now (ev .entry)) ⌝ }
+{
+    let part = shown_part(s, ev);
+    let start = part.start;
+    let end = start + part.size;
+    &ev[start..end]
+}
