@@ -14,18 +14,18 @@ ghost use Rattle.network.specs.Tests.{candidates};
 ghost use Rattle.network.specs.Rows.{SlotRowsOf};
 ghost use Rattle.evidence.specs.Checks.{forestIn, formRight};
 ghost use Rattle.checker.specs.Following.{nodeFrom, nodeTest, LeftIn, statedTest, partsFault};
-use super::layout::BLOCK_BITS;
-use super::layout::FOREST;
-use super::layout::HEAD_BITS;
-use super::layout::LOCATION_BITS;
-use super::layout::LOSS_AT;
-use super::layout::MARK_AT;
-use super::layout::MARK_BITS;
-use super::layout::NODE_BITS;
-use super::layout::SECTION_BITS;
-use super::layout::SERVED_AT;
-use super::layout::WEIGHT;
-use super::layout::WEIGHT_BITS;
+use super::faults::FOREST;
+use super::faults::WEIGHT;
+use evidence::BLOCK_BITS;
+use evidence::HEAD_BITS;
+use evidence::LOCATION_BITS;
+use evidence::MARK_BITS;
+use evidence::NODE_BITS;
+use evidence::SECTION_BITS;
+use evidence::SECTION_LOSS_AT;
+use evidence::SECTION_MARK_AT;
+use evidence::SERVED_AT;
+use evidence::WEIGHT_BITS;
 use picture::Header;
 use rows::LOCATIONS;
 use rows::WORDS;
@@ -112,10 +112,10 @@ fn stated_right(ev: &[u8], q: usize, k: usize, lost: Lost) -> bool
     if k == 0 {
         return bits::field(ev, SERVED_AT, WEIGHT_BITS) == weight;
     }
-    if bits::field(ev, q - SECTION_BITS + LOSS_AT, WEIGHT_BITS) != weight {
+    if bits::field(ev, q - SECTION_BITS + SECTION_LOSS_AT, WEIGHT_BITS) != weight {
         return false;
     }
-    bits::field(ev, q - SECTION_BITS + MARK_AT, MARK_BITS) == mark
+    bits::field(ev, q - SECTION_BITS + SECTION_MARK_AT, MARK_BITS) == mark
 }
 
 // The first fault of the forests and of the weights that are stated of them, or 0: part by part, slot by slot, and the links of each

@@ -8,22 +8,23 @@ ghost use Rattle.picture.specs.Layout.{edition1};
 ghost use Rattle.evidence.specs.Layout.{sectionAt};
 ghost use Rattle.evidence.specs.Checks.{verdictRight};
 ghost use Rattle.checker.specs.Forming.{blockMarked, blocksMarked, headTest, sectionTest, formTest, blocksBelow, stated};
-use super::layout::BLOCK_BITS;
-use super::layout::CHOSEN_AT;
-use super::layout::CHOSEN_LOSS_AT;
-use super::layout::COUNT_AT;
-use super::layout::COUNT_BITS;
-use super::layout::EDITION;
-use super::layout::EDITION_BITS;
-use super::layout::HEAD_BITS;
-use super::layout::LOSS_AT;
-use super::layout::MARK_AT;
-use super::layout::MARK_BITS;
-use super::layout::NODE_BITS;
-use super::layout::SECTION_BITS;
-use super::layout::VERDICT_AT;
-use super::layout::VERDICT_BITS;
-use super::layout::WEIGHT_BITS;
+use evidence::BLOCK_AT;
+use evidence::BLOCK_BITS;
+use evidence::BYTE_BITS;
+use evidence::COUNT_AT;
+use evidence::COUNT_BITS;
+use evidence::EDITION;
+use evidence::EDITION_BITS;
+use evidence::HEAD_BITS;
+use evidence::LOSS_AT;
+use evidence::MARK_BITS;
+use evidence::NODE_BITS;
+use evidence::SECTION_BITS;
+use evidence::SECTION_LOSS_AT;
+use evidence::SECTION_MARK_AT;
+use evidence::VERDICT_AT;
+use evidence::VERDICT_BITS;
+use evidence::WEIGHT_BITS;
 use rows::WORDS;
 
 // Whether evidence has the form for a picture, and how many candidates the picture has.
@@ -57,7 +58,7 @@ fn section_right(ev: &[u8], n: usize, i: usize, b: usize) -> bool
     if bits::field(ev, at, BLOCK_BITS) != b {
         return false;
     }
-    bits::field(ev, at + MARK_AT, MARK_BITS) <= 1
+    bits::field(ev, at + SECTION_MARK_AT, MARK_BITS) <= 1
 }
 
 // Whether length, edition, verdict and count are right for so many candidates.
@@ -65,7 +66,7 @@ fn head_right(ev: &[u8], n: usize, count: usize) -> bool
     requires { ⌜ (n ≤ 240) × (count ≤ 255) ⌝ }
     ensures { λ r. ⌜ r ≡ headTest n (now (ev .entry)) count ⌝ }
 {
-    if ev.len() != section_at(n, count) / 8 {
+    if ev.len() != section_at(n, count) / BYTE_BITS {
         return false;
     }
     if bits::field(ev, 0, EDITION_BITS) != EDITION {
@@ -133,8 +134,8 @@ pub fn verdict_right(ev: &[u8], n: usize, count: usize) -> bool
     requires { ⌜ (n ≤ 240) × (count ≤ 255) ⌝ }
     ensures { λ r. ⌜ r ≡ verdictRight (now (ev .entry)) (stated n (now (ev .entry)) count) ⌝ }
 {
-    let block = bits::field(ev, CHOSEN_AT, BLOCK_BITS);
-    let loss = bits::field(ev, CHOSEN_LOSS_AT, WEIGHT_BITS);
+    let block = bits::field(ev, BLOCK_AT, BLOCK_BITS);
+    let loss = bits::field(ev, LOSS_AT, WEIGHT_BITS);
     let mut verdict: usize = 0;
     let mut least: usize = 0;
     let mut named = false;
@@ -143,8 +144,8 @@ pub fn verdict_right(ev: &[u8], n: usize, count: usize) -> bool
         i -= 1;
         let at = section_at(n, i);
         let b = bits::field(ev, at, BLOCK_BITS);
-        let lost = bits::field(ev, at + LOSS_AT, WEIGHT_BITS);
-        let mark = bits::field(ev, at + MARK_AT, MARK_BITS);
+        let lost = bits::field(ev, at + SECTION_LOSS_AT, WEIGHT_BITS);
+        let mark = bits::field(ev, at + SECTION_MARK_AT, MARK_BITS);
         if is_least(mark, lost, verdict, least) {
             verdict = 1;
             least = lost;

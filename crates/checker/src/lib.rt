@@ -5,20 +5,21 @@ ghost use Rattle.evidence.specs.Checks.{checkFault};
 ghost use Rattle.evidence.specs.Calls.{shown, shownPart};
 ghost use Rattle.checker.specs.Answers.{checking};
 
+mod faults;
 mod following;
 mod forming;
-mod layout;
 
-use layout::BLOCK_BITS;
-use layout::CHOSEN_AT;
-use layout::COUNT_AT;
-use layout::COUNT_BITS;
-use layout::FORM;
-use layout::NODE_BITS;
-use layout::SECTION_BITS;
-use layout::VERDICT;
-use layout::VERDICT_AT;
-use layout::VERDICT_BITS;
+use evidence::BLOCK_AT;
+use evidence::BLOCK_BITS;
+use evidence::BYTE_BITS;
+use evidence::COUNT_AT;
+use evidence::COUNT_BITS;
+use evidence::NODE_BITS;
+use evidence::SECTION_BITS;
+use evidence::VERDICT_AT;
+use evidence::VERDICT_BITS;
+use faults::FORM;
+use faults::VERDICT;
 use picture::Header;
 use picture::Reading;
 
@@ -92,11 +93,11 @@ fn shown_part(s: &[u8], ev: &[u8]) -> Part
                 return Part { start: 0, size: 0 };
             }
             let count = bits::field(ev, COUNT_AT, COUNT_BITS);
-            let b = bits::field(ev, CHOSEN_AT, BLOCK_BITS);
+            let b = bits::field(ev, BLOCK_AT, BLOCK_BITS);
             let i = forming::sections_below(ev, n, count, b);
             Part {
-                start: forming::section_at(n, i) / 8,
-                size: (SECTION_BITS + n * NODE_BITS) / 8,
+                start: forming::section_at(n, i) / BYTE_BITS,
+                size: (SECTION_BITS + n * NODE_BITS) / BYTE_BITS,
             }
         }
     }

@@ -28,6 +28,7 @@ use evidence::MARK_BITS;
 use evidence::NODE_BYTES;
 use evidence::SECTION_BYTES;
 use evidence::SERVED_AT;
+use evidence::VERDICT_AT;
 use evidence::VERDICT_BITS;
 use evidence::WEIGHT_BITS;
 use network::ENDPOINTS;
@@ -219,7 +220,7 @@ fn put_head(buf: &mut [u8], c: Choice, count: usize, served: usize)
     ensures { λ _. ⌜ Put (now (buf .entry)) 0 (headFields edition1 (choiceOf c) count served) (now (buf .exit)) ⌝ }
 {
     bits::put_field(buf, 0, EDITION_BITS, EDITION);
-    bits::put_field(buf, EDITION_BITS, VERDICT_BITS, c.verdict as usize);
+    bits::put_field(buf, VERDICT_AT, VERDICT_BITS, c.verdict as usize);
     bits::put_field(buf, BLOCK_AT, BLOCK_BITS, c.block as usize);
     bits::put_field(buf, COUNT_AT, COUNT_BITS, count);
     bits::put_field(buf, SERVED_AT, WEIGHT_BITS, served);

@@ -16,7 +16,9 @@ pub const MARK_BITS: usize = 8;
 pub const LOCATION_BITS: usize = 8;
 
 // Where the fields of the head start, and its end.
-pub const BLOCK_AT: usize = EDITION_BITS + VERDICT_BITS;
+pub const VERDICT_AT: usize = EDITION_BITS;
+
+pub const BLOCK_AT: usize = VERDICT_AT + VERDICT_BITS;
 
 pub const COUNT_AT: usize = BLOCK_AT + BLOCK_BITS;
 
