@@ -24,7 +24,8 @@ use Rattle.network.proofs.Named.{Named, joins-at, at-joins}
 use Rattle.network.proofs.Making.{Scanned, scanned-begun, scanned-hit, scanned-miss}
 use Rattle.evidence.specs.Checks.{isIn, nodeRight, linkRight, forestRight}
 use Rattle.checker.specs.Following.{nodeTest}
-use Rattle.checker.proofs.Alls.{is-true, range-all, range-wrong, at-all, all-wrong}
+use Rattle.checker.proofs.Alls.{is-true, range-all, range-wrong, all-wrong}
+use Rattle.lists.proofs.Every.{at-all}
 use Rattle.checker.proofs.Nodes.{origin-in, slot-in, above-in}
 
 -- ---- the loops

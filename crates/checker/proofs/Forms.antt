@@ -3,12 +3,12 @@ use mathlib.Core.Path.{_≡_, refl, sym, ap, ap₂, _∙_, subst, fun-ext}
 use mathlib.Core.Bool.{Bool, true, false, _&&_, cond, and-assoc, and-comm}
 use mathlib.Core.Logic.{by-cases}
 use mathlib.Core.List.{List, [], _∷_, _++_, append-nil}
-use Prim.Native.Nat.{ℕ, _+_, _*_, _≤_, _<_, zero-le}
+use Prim.Native.Nat.{ℕ, _+_, _*_, _≤_}
 use native.Mathlib.Omega.{arith}
 use native.Mathlib.Nat.{zero-add, add-zero}
 use native.Mathlib.Numerals.{add-one}
 use borrow.Author.Tests.{le-leb}
-use lib.Dec.{T, not-T, eqb, leb, eqb→eq, leb→le}
+use lib.Dec.{T, not-T, eqb, leb, leb→le}
 use lib.ListN.{length, getD, length-append, List·getD-append}
 use lib.Seq.{getD-append-add}
 use Rattle.lists.specs.Lists.{range, all, any, filter}
@@ -22,33 +22,16 @@ use Rattle.network.specs.Tests.{isCandidate, candidates}
 use Rattle.network.specs.Rows.{SlotRowsOf, BlockRow, isNearHeld}
 use Rattle.network.proofs.Candidates.{candidate-test, test-candidate}
 use Rattle.evidence.specs.Layout.{evidenceBytes}
-use Rattle.evidence.specs.Checks.{headIn, sectionIn, formRight}
+use Rattle.evidence.specs.Checks.{headIn, formRight}
 use Rattle.evidence.specs.Rules.{Form}
 use Rattle.checker.specs.Forming.{blockMarked, blocksMarked, headTest, sectionTest, sectionsTest, formTest}
-use Rattle.checker.proofs.Alls.{all-range}
-use Rattle.checker.proofs.Growing.{same-test, all-more, all-same, filter-more}
+use Rattle.evidence.proofs.Judging.{right-form as test-form}
+use Rattle.checker.proofs.Growing.{same-test, all-more, all-same}
+use Rattle.lists.proofs.Growing.{filter-more}
 
 module _ (e : Edition) (p : Picture) (ev : List ℕ) where
-  section-formed : ℕ → Bool
-  section-formed i = eqb (sectionIn e (slotCount p) ev i 0) (getD (candidates p) i 0) && leb (sectionIn e (slotCount p) ev i 2) 1
-
   pub right-form : formRight e p ev ≡ true → Form e p ev
-  unfolding formRight section-formed
-  right-form r =
-      let t : T (formRight e p ev) = rw r tt in
-      let t1 = and-T (eqb (length ev) (evidenceBytes e (slotCount p) (length (candidates p)))) _ t in
-      let t2 = and-T (eqb (headIn ev 0) (e .number)) _ (t1 .1) in
-      let t3 = and-T (leb (headIn ev 1) 1) _ (t2 .1) in
-      let t4 = and-T (eqb (headIn ev 3) (length (candidates p))) (all section-formed (range 0 (length (candidates p)))) (t3 .1) in
-      let each : (i : ℕ) → i < length (candidates p) → T (section-formed i) = λ i l. all-range section-formed 0 (length (candidates p)) (t4 .1) i zero-le (rw zero-add l) in
-      record {
-        size = eqb→eq _ _ (t1 .0);
-        edition = eqb→eq _ _ (t2 .0);
-        verdict = leb→le _ _ (t3 .0);
-        count = eqb→eq _ _ (t4 .0);
-        blocks = λ i l. eqb→eq _ _ (and-T (eqb (sectionIn e (slotCount p) ev i 0) (getD (candidates p) i 0)) (leb (sectionIn e (slotCount p) ev i 2) 1) (each i l) .0);
-        marks = λ i l. leb→le _ _ (and-T (eqb (sectionIn e (slotCount p) ev i 0) (getD (candidates p) i 0)) (leb (sectionIn e (slotCount p) ev i 2) 1) (each i l) .1);
-      }
+  right-form r = test-form e p ev (rw r tt)
 
 -- ---- the candidates, as the code finds them
 

@@ -1,12 +1,11 @@
--- Tests, and tests and filters over a range that grows at its end. Assumes nothing.
+-- Tests, and tests over a range that grows at its end. Assumes nothing.
 use mathlib.Core.Path.{_≡_, refl, sym, ap, ap₂, _∙_}
-use mathlib.Core.Bool.{Bool, true, false, _&&_, and-assoc, cond}
-use mathlib.Core.List.{List, [], _∷_, _++_}
+use mathlib.Core.Bool.{Bool, true, false, _&&_, and-assoc, and-true}
 use Prim.Native.Nat.{ℕ, zero, suc, _+_, _≤_, _<_}
 use native.Mathlib.Omega.{arith}
 use native.Mathlib.Nat.{add-zero, add-suc, suc-add}
 use lib.Dec.{T}
-use Rattle.lists.specs.Lists.{range, all, filter}
+use Rattle.lists.specs.Lists.{range, all}
 
 -- tests that imply each other are one
 pub same-test : (a b : Bool) → (T a → T b) → (T b → T a) → a ≡ b
@@ -15,14 +14,6 @@ same-test true false f g = absurd (f tt)
 same-test false true f g = absurd (g tt)
 same-test false false f g = refl
 
-pub and-none : (b : Bool) → (b && false) ≡ false
-and-none true = refl
-and-none false = refl
-
-pub and-true : (b : Bool) → (b && true) ≡ b
-and-true true = refl
-and-true false = refl
-
 module _ (f : ℕ → Bool) where
   pub all-more : (i k : ℕ) → all f (range i (suc k)) ≡ (all f (range i k) && f (i + k))
   unfolding range all
@@ -30,17 +21,6 @@ module _ (f : ℕ → Bool) where
   all-more i (suc k) =
       ap (λ (b : Bool). f i && b) (all-more (suc i) k ∙ ap (λ (j : ℕ). all f (range (suc i) k) && f j) (suc-add i k ∙ sym (add-suc i k)))
       ∙ sym (and-assoc (f i) (all f (range (suc i) k)) (f (i + suc k)))
-
-  pub filter-more : (i k : ℕ) → filter f (range i (suc k)) ≡ filter f (range i k) ++ cond (f (i + k)) ((i + k) ∷ []) []
-  unfolding range filter
-  filter-more i zero = ap (λ (j : ℕ). cond (f j) (j ∷ []) []) (sym (add-zero i))
-  filter-more i (suc k) =
-      ap (λ (l : List ℕ). cond (f i) (i ∷ l) l) (filter-more (suc i) k ∙ ap (λ (j : ℕ). filter f (range (suc i) k) ++ cond (f j) (j ∷ []) []) (suc-add i k ∙ sym (add-suc i k)))
-      ∙ go (f i) (cond (f (i + suc k)) ((i + suc k) ∷ []) [])
-    where
-      go : (b : Bool) (r : List ℕ) → cond b (i ∷ (filter f (range (suc i) k) ++ r)) (filter f (range (suc i) k) ++ r) ≡ cond b (i ∷ filter f (range (suc i) k)) (filter f (range (suc i) k)) ++ r
-      go true r = refl
-      go false r = refl
 
   -- a test that says the same of each number
   pub all-same : (g : ℕ → Bool) (i k : ℕ) → ((u : ℕ) → i ≤ u → u < i + k → f u ≡ g u) → all f (range i k) ≡ all g (range i k)

@@ -1,6 +1,6 @@
 -- The nodes of a forest in the evidence, and what the test of one node comes to. Assumes nothing.
 use mathlib.Core.Path.{_≡_, refl, sym, ap, _∙_}
-use mathlib.Core.Bool.{Bool, true, false, not, _&&_, cond}
+use mathlib.Core.Bool.{Bool, true, false, not, _&&_, cond, and-false, and-true}
 use mathlib.Core.Logic.{_≢_, by-cases}
 use mathlib.Core.List.{List}
 use Prim.Native.Nat.{ℕ, _+_, _≤_, _<_}
@@ -19,7 +19,6 @@ use Rattle.picture.proofs.Starts.{field-second, length-rows, item-row}
 use Rattle.evidence.specs.Layout.{nodeWidths}
 use Rattle.evidence.specs.Checks.{nodeIn, forestIn, isIn}
 use Rattle.checker.specs.Following.{nodeFrom, nodeTest}
-use Rattle.checker.proofs.Growing.{and-none, and-true}
 
 -- ---- the nodes
 
@@ -64,11 +63,11 @@ module _ (es : List Node) where
 eqb-swap : (a b : ℕ) → eqb a b ≡ eqb b a
 eqb-swap a b = by-cases (ℕ-discrete a b) (λ e. rw e) (λ n. ne-eqb a b n ∙ sym (ne-eqb b a (λ e. n (sym e))))
 
-and-false : (a b c : Bool) → (a && (b && (c && false))) ≡ false
-and-false true true true = refl
-and-false true true false = refl
-and-false true false c = refl
-and-false false b c = refl
+last-false : (a b c : Bool) → (a && (b && (c && false))) ≡ false
+last-false true true true = refl
+last-false true true false = refl
+last-false true false c = refl
+last-false false b c = refl
 
 module _ (linked : ℕ → ℕ → Bool) (held : ℕ → Bool) (es : List Node) (v parent depth : ℕ) (ep : parent ≡ nodeOf es v .parent) (ed : depth ≡ nodeOf es v .depth) where
   -- the rule of a slot in the forest
@@ -92,12 +91,12 @@ module _ (linked : ℕ → ℕ → Bool) (held : ℕ → Bool) (es : List Node) 
 
     pub node-parent-out : isIn es parent ≡ false → false ≡ nodeTest linked held es v
     unfolding ruled
-    node-parent-out i = sym (ap (λ (b : Bool). held v && (b && (eqb (nodeOf es parent .depth + 1) depth && linked parent v))) i ∙ and-none (held v)) ∙ deeper
+    node-parent-out i = sym (ap (λ (b : Bool). held v && (b && (eqb (nodeOf es parent .depth + 1) depth && linked parent v))) i ∙ and-false (held v)) ∙ deeper
 
     pub node-not-linked : linked parent v ≡ false → false ≡ nodeTest linked held es v
     unfolding ruled
     node-not-linked l =
-        sym (ap (λ (b : Bool). held v && (isIn es parent && (eqb (nodeOf es parent .depth + 1) depth && b))) l ∙ and-false (held v) (isIn es parent) (eqb (nodeOf es parent .depth + 1) depth)) ∙ deeper
+        sym (ap (λ (b : Bool). held v && (isIn es parent && (eqb (nodeOf es parent .depth + 1) depth && b))) l ∙ last-false (held v) (isIn es parent) (eqb (nodeOf es parent .depth + 1) depth)) ∙ deeper
 
     -- held, linked, and its parent in the forest: the depths are compared
     pub node-depths : held v ≡ true → isIn es parent ≡ true → linked parent v ≡ true → eqb (nodeOf es parent .depth + 1) depth ≡ nodeTest linked held es v

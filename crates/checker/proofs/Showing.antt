@@ -1,6 +1,6 @@
 -- The section that show gives: the chosen candidate's, which lies within the evidence. Assumes nothing.
 use mathlib.Core.Path.{_≡_, refl, sym, ap, ap₂, _∙_}
-use mathlib.Core.Bool.{Bool, true, false, not, _&&_, cond}
+use mathlib.Core.Bool.{Bool, true, false, not, _&&_, cond, and-false}
 use mathlib.Core.Logic.{_≢_, by-cases}
 use mathlib.Core.List.{List, [], _∷_, map}
 use Prim.Native.Nat.{ℕ, zero, suc, _+_, _*_, _/_, _≤_, _<_, suc-le-suc}
@@ -30,7 +30,6 @@ use Rattle.evidence.specs.Calls.{shownPart}
 use Rattle.checker.specs.Following.{partsFault}
 use Rattle.checker.specs.Forming.{blocksBelow}
 use Rattle.checker.proofs.Alls.{is-true}
-use Rattle.checker.proofs.Growing.{and-none}
 use Rattle.checker.proofs.Forms.{right-form}
 use Rattle.checker.proofs.Parts.{section-at, weighed-at}
 use Rattle.checker.proofs.Answering.{map-shift, twice, check-parts, weighings-length}
@@ -91,7 +90,7 @@ module _ (bs ev : List ℕ) where
 
   pub shown-none : headIn ev 1 ≢ 1 → shownPart bs ev ≡ record { start = 0; size = 0 }
   unfolding shownPart
-  shown-none n = rw (ne-eqb (headIn ev 1) 1 n, and-none (eqb (checkFault bs ev) 0))
+  shown-none n = rw (ne-eqb (headIn ev 1) 1 n, and-false (eqb (checkFault bs ev) 0))
 
   module _ (passed : checkFault bs ev ≡ 0) where
     passes : first (pictureFault bs ∷ on (not (formRight edition1 (pictureOf bs) ev)) 13 ∷ partsFault bs ev ∷ on (not (verdictRight ev (weighings (pictureOf bs)))) 16 ∷ []) ≡ 0

@@ -17,7 +17,7 @@ use Rattle.network.specs.Tests.{isCandidate, candidates}
 use Rattle.network.specs.Rows.{isNearHeld, SlotRowsOf, BlockRow}
 use Rattle.network.proofs.Candidates.{candidate-test, test-candidate}
 use Rattle.choose.specs.Sections.{Counted}
-use Rattle.choose.proofs.Growing.{filter-more}
+use Rattle.lists.proofs.Growing.{filter-more}
 
 -- a block below the last ends before it does
 pub block-within : (b blocks size : ℕ) → b < blocks → blocks * size ≤ 240 → b * size + size ≤ 240

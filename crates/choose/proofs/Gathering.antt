@@ -19,7 +19,7 @@ use Rattle.evidence.specs.Layout.{sectionWidths}
 use Rattle.evidence.specs.Canonical.{Choice, weighings, least, fieldsOf, forestFields, forestOf, sectionFields}
 use Rattle.choose.specs.Writing.{Put}
 use Rattle.choose.specs.Sections.{bettered, Room, SectionDone, Sectioned}
-use Rattle.choose.proofs.Growing.{map-append, flat-map-more, filter-more, filter-grows}
+use Rattle.lists.proofs.Growing.{map-append, flat-map-more, filter-more, filter-grows}
 use Rattle.choose.proofs.Writing.{put-none, put-behind, put-same}
 use Rattle.evidence.proofs.Fields.{length-forest-of}
 use Rattle.choose.proofs.Nodes.{span-forest}

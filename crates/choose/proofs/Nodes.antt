@@ -20,7 +20,7 @@ use Rattle.picture.specs.Layout.{edition1}
 use Rattle.evidence.specs.Layout.{nodeWidths}
 use Rattle.evidence.specs.Canonical.{fieldsOf, nodeFields, forestFields}
 use Rattle.choose.specs.Writing.{Put, nodesIn}
-use Rattle.choose.proofs.Growing.{range-more, map-append, flat-map-more}
+use Rattle.lists.proofs.Growing.{range-more, map-append, flat-map-more}
 use Rattle.choose.proofs.Writing.{put-none, put-one-byte, put-behind, put-same}
 
 -- ---- widths

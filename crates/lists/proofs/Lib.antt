@@ -10,3 +10,4 @@ pub mod Prefixes
 pub mod Picks
 pub mod Ends
 pub mod Every
+pub mod Growing

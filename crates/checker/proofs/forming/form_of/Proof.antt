@@ -1,6 +1,6 @@
 -- `form_of` goes over the blocks and finds the candidates. Assumes nothing.
 use mathlib.Core.Path.{_≡_, sym, ap, ap₂, _∙_}
-use mathlib.Core.Bool.{Bool, _&&_}
+use mathlib.Core.Bool.{Bool, _&&_, and-false, and-true}
 use mathlib.Core.Logic.{⊎-elim}
 use Prim.Native.Nat.{ℕ, _-_, _≤_}
 use native.Mathlib.Omega.{arith}
@@ -8,7 +8,6 @@ use native.Mathlib.Nat.{suc-mul, mul-le-mul-right}
 use borrow.Author.Tests.{not-true, not-false}
 use Rattle.checker.specs.Forming.{headTest, sectionTest, formTest, blocksMarked}
 use lib.ListN.{length}
-use Rattle.checker.proofs.Growing.{and-none, and-true}
 use Rattle.checker.proofs.Forms.{Forming, forming-begun, forming-miss, forming-hit}
 use borrow.Author.Needs.{needs}
 use Rattle.checker.proofs.forming.form_of.Statement.{statement}
@@ -25,7 +24,7 @@ right-next : (c : tie.Joined2 Inv-loop μ-loop) → c .if2 .right ≡ (c .before
 right-next c =
     let r = c .before .before .before .before .before .loop .right in
     ⊎-elim
-    (λ w. w .1 ∙ sym (ap (λ (x : Bool). r && x) (sym (c .before .section-right .ensures) ∙ not-true _ (w .0 .taken)) ∙ and-none r))
+    (λ w. w .1 ∙ sym (ap (λ (x : Bool). r && x) (sym (c .before .section-right .ensures) ∙ not-true _ (w .0 .taken)) ∙ and-false r))
     (λ w. w .1 ∙ sym (ap (λ (x : Bool). r && x) (sym (c .before .section-right .ensures) ∙ not-false _ (w .0 .left)) ∙ and-true r))
     (c .if2 .came)
 
