@@ -1,0 +1,3 @@
+-- Laws of the numbers that the calls for C answer.
+pub mod Numbers
+pub mod Lengths

@@ -1,0 +1,55 @@
+-- `blockplan_choose` is one call, and answers its number. Assumes nothing.
+use mathlib.Core.Path.{sym, ap, _∙_}
+use Rattle.blockplan_c.specs.Answers.{choosingNumber}
+use Rattle.blockplan_c.proofs.Numbers.{passed-on}
+use Rattle.blockplan_c.proofs.Lengths.{told-small}
+use borrow.Author.Needs.{needs}
+use Rattle.blockplan_c.proofs.blockplan_choose.Statement.{statement}
+use Rattle.blockplan_c.proofs.blockplan_choose.Tie as tie
+
+choose-requires : tie.Need-choose-requires
+choose-requires c κs = search needs
+
+enum-known-length : tie.Need-enum-known-length
+enum-known-length c = search needs
+
+length-told-requires : tie.Need-length-told-requires
+length-told-requires c κs = told-small _ _ _ (sym (sym (c .before .length .given .1) ∙ c .before .before .before .before .before .choose .ensures .0))
+
+enum-known-number : tie.Need-enum-known-number
+enum-known-number c = search needs
+
+refusal-requires : tie.Need-refusal-requires
+refusal-requires c κs = search needs
+
+same-length : tie.Need-same-length
+same-length c = search needs
+
+returns : tie.Need-returns
+unfolding choosingNumber
+returns c =
+    let k = c .before .before .before .before .before .before .choose .ensures in
+    (passed-on (c .length-told .ensures .1) (c .length-told .ensures .0 ∙ ap choosingNumber (sym (c .before .before .length .given .1) ∙ k .0)) .0, k .1)
+
+same-length-2 : tie.Need-same-length-2
+same-length-2 c = search needs
+
+returns-2 : tie.Need-returns-2
+unfolding choosingNumber
+returns-2 c =
+    let k = c .before .before .before .before .before .before .choose .ensures in
+    (passed-on (c .refusal .ensures .1) (c .refusal .ensures .0 ∙ ap choosingNumber (sym (c .before .before .number .given .1) ∙ k .0)) .0, k .1)
+
+pub blockplan-choose-spec : {M : Type 1} → statement M
+blockplan-choose-spec =
+    tie.close
+    (tie.spec
+    choose-requires
+    enum-known-length
+    length-told-requires
+    enum-known-number
+    refusal-requires
+    same-length
+    returns
+    same-length-2
+    returns-2)

@@ -1,0 +1,2 @@
+-- What the calls for C answer.
+pub mod Answers
