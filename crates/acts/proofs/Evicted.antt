@@ -75,15 +75,9 @@ module _ (p : Picture) (b : ℕ) where
   pub evicted-held : (v : ℕ) → isHeld (actOn Evict p b) v ≡ heldWithout p b v
   evicted-held = emptied-held evict-empties p b
 
-  pub evicted-weight : Named p → servedWeight (actOn Evict p b) + weighed p b .loss ≡ servedWeight p
-  evicted-weight = emptied-weight evict-empties p b
-
   -- free cuts where evict would
   pub freed-held : (v : ℕ) → isHeld (actOn Free p b) v ≡ heldWithout p b v
   freed-held = emptied-held free-empties p b
-
-  pub freed-weight : Named p → servedWeight (actOn Free p b) + weighed p b .loss ≡ servedWeight p
-  freed-weight = emptied-weight free-empties p b
 
 -- ---- the same of the bytes
 

@@ -4,6 +4,7 @@ use mathlib.Core.Bool.{Bool, true, false, not, _&&_}
 use mathlib.Core.List.{List}
 use Prim.Native.Nat.{ℕ, zero, suc, _+_, _*_, _≤_, _<_}
 use native.Mathlib.Nat.{not-suc-le-zero}
+use Rattle.rows.specs.Rows.{slotsMost}
 use borrow.Author.Tests.{le-leb, lt-leb}
 use lib.Dec.{eqb, leb}
 use lib.ListN.{length}
@@ -23,7 +24,7 @@ use Rattle.acts.specs.Acts.{after, blockSlots, changes, recoverableNear}
 -- the block's last slot is at most n, which is a small number
 pub record Within (h : Header) (b : ℕ) : Type 0 where
   pub last : b * h .«block_size» + h .«block_size» ≤ h .slots
-  pub most : h .slots ≤ 240
+  pub most : h .slots ≤ slotsMost
 
 -- the act changes slot v
 abbrev pub changed : Act → Picture → ℕ → Bool

@@ -6,7 +6,6 @@ pub mod Evicted
 pub mod Reloaded
 pub mod Judged
 pub mod Choosable
-pub mod Scanning
 pub mod Headers
 pub mod Putting
 pub mod Answering

@@ -29,7 +29,7 @@ after Free s = 2
 unfoldable pub blockSlots : Picture → ℕ → List ℕ
 blockSlots p b = range (b * p .blockSize + 1) (p .blockSize)
 
--- 11: the act changes no slot
+-- the act changes a slot: 11 where it does not
 unfoldable pub changes : Act → Picture → ℕ → Bool
 changes a p b = any (λ v. not (eqb (after a (slotOf p v .state)) (slotOf p v .state))) (blockSlots p b)
 
@@ -39,13 +39,15 @@ cutFault Evict p b = on (eqb (weighed p b .mark) 1) 10
 cutFault Reload p b = 0
 cutFault Free p b = on (eqb (weighed p b .mark) 1) 10
 
--- 12: reload adds a held near slot and more than κ are then held
+-- slot v is a near slot that a reload of block b adds to the held ones
 unfoldable pub recoverableNear : Picture → ℕ → ℕ → Bool
 recoverableNear p b v = inBlock p b v && (slotOf p v .near && eqb (slotOf p v .state) 1)
 
+-- how many near slots are held after a reload of block b
 unfoldable pub nearAfter : Picture → ℕ → ℕ
 nearAfter p b = length (filter (λ v. isNearHeld p v || recoverableNear p b v) (range 1 (slotCount p)))
 
+-- 12: reload adds a held near slot and more than κ are then held
 unfoldable pub nearFault : Act → Picture → ℕ → ℕ
 nearFault Evict p b = 0
 nearFault Reload p b = on (any (recoverableNear p b) (range 1 (slotCount p)) && ltb (p .nearLimit) (nearAfter p b)) 12
@@ -63,6 +65,7 @@ putStates e f bs [] = bs
 putStates e f bs (zero ∷ vs) = putStates e f bs vs
 putStates e f bs (suc i ∷ vs) = putField (putStates e f bs vs) (slotsAt e + i * sum slotWidths) 2 (f (suc i))
 
+-- the picture's bytes where the act is done
 unfoldable pub doneBytes : Act → List ℕ → ℕ → List ℕ
 doneBytes a bs b =
     let p : Picture = pictureOf bs in
@@ -96,3 +99,8 @@ actingOf (suc k) = Refused (suc k)
 
 unfoldable pub acting : Act → List ℕ → ℕ → Acting
 acting a bs b = actingOf (actFault a bs b)
+
+-- 01's number for each case
+unfoldable pub actingNumbers : Acting → List ℕ
+actingNumbers Done = 0 ∷ []
+actingNumbers (Refused k) = k ∷ []

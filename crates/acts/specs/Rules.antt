@@ -18,7 +18,7 @@ pub record Changes (a : Act) (p : Picture) (b : ℕ) : Type 0 where
   pub inside : T (inBlock p b slot)
   pub other : after a (slotOf p slot .state) ≢ slotOf p slot .state
 
--- "evict or free cuts a protected cab"; reload cuts nothing
+-- not so: "evict or free cuts a protected cab". Reload cuts nothing
 abbrev pub Spares : Act → Picture → ℕ → Type 0
 Spares Evict p b = Admissible p b
 Spares Reload p b = Unit {0}

@@ -15,6 +15,14 @@ use picture::HELD;
 use picture::Header;
 use picture::RECOVERABLE;
 use picture::Reading;
+use weigh::NO_BLOCK;
+
+// The numbers of the faults of acts.
+const PROTECTED: u8 = 10;
+
+const NO_CHANGE: u8 = 11;
+
+const NEAR: u8 = 12;
 
 // What is done to a block.
 pub enum Act {
@@ -145,7 +153,7 @@ fn block_cut_fault(s: &[u8], h: Header, b: usize) -> u8
     ensures { λ r. ⌜ r ≡ on (eqb (weighed (pictureOf (now (s .entry))) b .mark) 1) 10 ⌝ }
 {
     if weigh::weigh_block(s, h, b).mark == 1 {
-        return 10;
+        return PROTECTED;
     }
     0
 }
@@ -173,7 +181,7 @@ fn block_near_fault(s: &[u8], h: Header, b: usize) -> u8
         return 0;
     }
     if limit < near_after(s, h, b) {
-        return 12;
+        return NEAR;
     }
     0
 }
@@ -196,11 +204,11 @@ fn act_fault(s: &[u8], h: Header, a: Act, b: usize) -> u8
     ensures { λ r. ⌜ r ≡ actFault a (now (s .entry)) b ⌝ }
 {
     if h.slots / h.block_size <= b {
-        return 8;
+        return NO_BLOCK;
     }
     let some = changes(s, h, a, b);
     if !some {
-        return 11;
+        return NO_CHANGE;
     }
     let cut = cut_fault(s, h, a, b);
     if cut != 0 {

@@ -8,7 +8,7 @@ use native.Mathlib.Omega.{arith}
 use lib.Dec.{T, eqb, eqb→eq}
 use lib.ListN.{length, length-map}
 use lib.Seq.{ext-getD}
-use Rattle.lists.specs.Lists.{range, on, first}
+use Rattle.lists.specs.Lists.{range, on, first, told}
 use Rattle.lists.proofs.Tests.{and-T}
 use Rattle.lists.proofs.Ranges.{length-range}
 use Rattle.lists.proofs.Faults.{on-zero, first-zero, stop-at, skip-at, end-at, first-map-none}
@@ -21,7 +21,7 @@ use Rattle.network.proofs.Weights.{weighed-block}
 use Rattle.evidence.specs.Canonical.{weighings}
 use Rattle.evidence.specs.Checks.{headIn, sectionIn, firstForest, forestRight, formRight, sectionFault, verdictRight, checkFault}
 use Rattle.checker.specs.declared.Checking.the-variants.{Passed, Refused}
-use Rattle.checker.specs.Answers.{checkingOf, checking}
+use Rattle.checker.specs.Answers.{checkingOf, checking, checkingNumbers}
 use Rattle.checker.specs.Following.{partFault, partsFault}
 use Rattle.checker.specs.Forming.{statedIn, stated}
 use Rattle.checker.proofs.Forms.{right-form}
@@ -143,3 +143,13 @@ pub told-refused : (bs ev : List ℕ) (k : ℕ) → k ≢ 0 → k ≡ checkFault
 unfolding checking checkingOf
 told-refused bs ev zero n e = absurd (n refl)
 told-refused bs ev (suc k) n e = ap checkingOf e
+
+-- ---- the numbers of the answer
+
+pub checking-numbers : (bs ev : List ℕ) → checkingNumbers (checking bs ev) ≡ told (checkFault bs ev) []
+unfolding checkingNumbers checking checkingOf told
+checking-numbers bs ev = go (checkFault bs ev)
+  where
+    go : (k : ℕ) → checkingNumbers (checkingOf k) ≡ told k []
+    go zero = refl
+    go (suc k) = refl

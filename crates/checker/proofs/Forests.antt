@@ -11,7 +11,7 @@ use lib.Dec.{T, T-not, not-T, eqb, leb, ltb}
 use lib.ListN.{length, getD, replicate}
 use Rattle.lists.specs.Lists.{range, all}
 use Rattle.lists.proofs.Tests.{and-T, T-and, T-or-r, is-false}
-use Rattle.rows.specs.Rows.{marked, linkedIn, With, Minus, Meet}
+use Rattle.rows.specs.Rows.{marked, linkedIn, With, Minus, NoneMarked, Meet}
 use Rattle.graph.specs.Rounds.{Node}
 use Rattle.graph.specs.Kept.{nodeOf}
 use Rattle.graph.specs.Held.{heldIn}
@@ -24,7 +24,7 @@ use Rattle.network.proofs.Named.{Named, joins-at, at-joins}
 use Rattle.network.proofs.Making.{Scanned, scanned-begun, scanned-hit, scanned-miss}
 use Rattle.evidence.specs.Checks.{isIn, nodeRight, linkRight, forestRight}
 use Rattle.checker.specs.Following.{nodeTest}
-use Rattle.checker.proofs.Alls.{is-true, range-all, range-wrong, all-wrong}
+use Rattle.lists.proofs.Alls.{is-true, range-all, range-wrong, all-wrong}
 use Rattle.lists.proofs.Every.{at-all}
 use Rattle.checker.proofs.Nodes.{origin-in, slot-in, above-in}
 
@@ -57,6 +57,10 @@ pub record Closed (linked : ℕ → ℕ → Bool) (marks others : List ℕ) (a :
 module _ (table : List (List ℕ)) (marks others : List ℕ) where
   pub closed-begun : Closed (linkedIn table) marks others 0
   closed-begun = record { shut = λ u h. absurd (omega arith) }
+
+  -- where the other row marks nothing, every location may count as looked at
+  pub closed-none : (a : ℕ) → NoneMarked others true → Closed (linkedIn table) marks others a
+  closed-none a e = record { shut = λ u h t w k. e .empty tt w }
 
   next : (a : ℕ) → Closed (linkedIn table) marks others a → (T (marked marks a) → (w : ℕ) → T (linkedIn table a w) → ¬ T (marked others w)) → Closed (linkedIn table) marks others (a + 1)
   next a c h = record { shut = λ u s. by-cases (ℕ-discrete u a) (λ e. rw e h) (λ n. c .shut u (omega arith)) }

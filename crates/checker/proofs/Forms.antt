@@ -26,7 +26,7 @@ use Rattle.evidence.specs.Checks.{headIn, formRight}
 use Rattle.evidence.specs.Rules.{Form}
 use Rattle.checker.specs.Forming.{blockMarked, blocksMarked, headTest, sectionTest, sectionsTest, formTest}
 use Rattle.evidence.proofs.Judging.{right-form as test-form}
-use Rattle.checker.proofs.Growing.{same-test, all-more, all-same}
+use Rattle.lists.proofs.Alls.{same-test, all-more, all-same}
 use Rattle.lists.proofs.Growing.{filter-more}
 
 module _ (e : Edition) (p : Picture) (ev : List ℕ) where

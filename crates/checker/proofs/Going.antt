@@ -13,7 +13,7 @@ use Rattle.lists.specs.Lists.{range}
 use Rattle.lists.proofs.Ranges.{length-range}
 use Rattle.lists.proofs.Picks.{getD-range}
 use Rattle.lists.proofs.Faults.{Clean, scan-begun, scan-miss, scan-hit, scan-ended}
-use Rattle.rows.specs.Rows.{marked, linkedIn, With, Minus, Meet}
+use Rattle.rows.specs.Rows.{marked, linkedIn, With, Minus, Meet, rowWords}
 use Rattle.graph.specs.Rounds.{Node}
 use Rattle.graph.specs.Held.{heldIn}
 use Rattle.picture.specs.Layout.{edition1}
@@ -107,7 +107,7 @@ module _ {bs ev held : List ℕ} {count n size d : ℕ} {links services : List (
       unfolding es
       going-link a i x = wrong (link-wrong (pictureOf bs) (t .named) (heldAt bs ev k) links (t .link-rows) left holds es len slots inner outer w m n (t .many) f a i x)
 
-      module _ (c : Closed (linkedIn links) inner outer (n + 1)) (before after : List ℕ) (weight mark : ℕ) (y : k ≡ 0 → (before ≡ inner) × (after ≡ replicate 4 0)) (z : k ≢ 0 → (before ≡ row) × (after ≡ inner))
+      module _ (c : Closed (linkedIn links) inner outer (n + 1)) (before after : List ℕ) (weight mark : ℕ) (y : k ≡ 0 → (before ≡ inner) × (after ≡ replicate rowWords 0)) (z : k ≢ 0 → (before ≡ row) × (after ≡ inner))
           (s : LostBetween services weights guarded d before after weight mark) where
         right : forestRight (pictureOf bs) (heldAt bs ev k) es ≡ true
         unfolding es
@@ -140,7 +140,7 @@ module _ {bs ev held : List ℕ} {count n size d : ℕ} {links services : List (
               reached = λ _. now k reaches y z (g .reached);
             }
           where
-            now : (j : ℕ) → Reaches (pictureOf bs) (heldAt bs ev j) inner → (j ≡ 0 → (before ≡ inner) × (after ≡ replicate 4 0)) → (j ≢ 0 → (before ≡ row) × (after ≡ inner))
+            now : (j : ℕ) → Reaches (pictureOf bs) (heldAt bs ev j) inner → (j ≡ 0 → (before ≡ inner) × (after ≡ replicate rowWords 0)) → (j ≢ 0 → (before ≡ row) × (after ≡ inner))
                 → (1 ≤ j → Reaches (pictureOf bs) (isHeld (pictureOf bs)) row) → Reaches (pictureOf bs) (isHeld (pictureOf bs)) before
             now zero r a b o = unfold heldAt in subst (Reaches (pictureOf bs) (isHeld (pictureOf bs))) (sym (a refl .0)) r
             now (suc i) r a b o = subst (Reaches (pictureOf bs) (isHeld (pictureOf bs))) (sym (b (λ x. absurd (omega arith)) .0)) (o (suc-le-suc zero-le))

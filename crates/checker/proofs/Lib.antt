@@ -1,6 +1,4 @@
 -- The laws of the check.
-pub mod Alls
-pub mod Growing
 pub mod Nodes
 pub mod Forests
 pub mod Reaching

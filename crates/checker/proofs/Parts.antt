@@ -12,43 +12,21 @@ use Rattle.lists.specs.Lists.{on, first, sum}
 use Rattle.lists.proofs.Faults.{stop-at, skip-at, end-at}
 use Rattle.graph.specs.Rounds.{Node}
 use Rattle.graph.specs.Held.{heldIn}
-use Rattle.picture.specs.Layout.{edition1, fieldIn}
+use Rattle.picture.specs.Layout.{edition1}
 use Rattle.picture.specs.Picture.{Picture, pictureOf}
 use Rattle.network.specs.Words.{slotCount, isHeld, heldWithout}
 use Rattle.network.specs.Tests.{Weighed, weighed, servedWeight, candidates}
 use Rattle.network.specs.Rows.{SlotRowsOf, BlockRow}
 use Rattle.network.proofs.Weights.{weighed-block}
 use Rattle.weigh.proofs.Serving.{left-held}
-use Rattle.evidence.specs.Layout.{headWidths, nodeWidths, sectionWidths, forestBits, sectionBits, sectionAt}
+use Rattle.evidence.specs.Layout.{headWidths, sectionWidths, sectionAt}
 use Rattle.evidence.specs.Canonical.{weighings}
 use Rattle.evidence.specs.Checks.{headIn, sectionIn, forestIn, firstForest, sectionForest, forestRight, formRight, sectionFault}
-use Rattle.checker.specs.Following.{partAt, LeftIn, statedTest, partFault}
+use Rattle.evidence.proofs.Places.{section-at, block-at, loss-at, mark-at}
+use Rattle.checker.specs.Following.{LeftIn, statedTest, partFault}
 use Rattle.checker.proofs.Forms.{right-form}
 
 -- ---- where the parts stand
-
--- the forest of part k starts after the head and k sections less a forest
-pub part-at : (n k : ℕ) → partAt n k ≡ 72 + k * (40 + n * 16)
-unfolding partAt headWidths sectionBits sectionWidths forestBits nodeWidths sum
-part-at n k = refl
-
-pub section-at : (n i : ℕ) → sectionAt edition1 n i ≡ 72 + n * 16 + i * (40 + n * 16)
-unfolding sectionAt headWidths sectionBits sectionWidths forestBits nodeWidths sum
-section-at n i = refl
-
--- the fields of section i, from where it starts
-module _ (n : ℕ) (ev : List ℕ) (i : ℕ) {at : ℕ} (e : at ≡ sectionAt edition1 n i) where
-  pub block-at : fieldAt ev at 8 ≡ sectionIn edition1 n ev i 0
-  unfolding sectionIn sectionWidths fieldIn sum
-  block-at = ap (λ (q : ℕ). fieldAt ev q 8) (e ∙ omega arith)
-
-  pub loss-at : fieldAt ev (at + 8) 24 ≡ sectionIn edition1 n ev i 1
-  unfolding sectionIn sectionWidths fieldIn sum
-  loss-at = ap (λ (q : ℕ). fieldAt ev (q + 8) 24) e
-
-  pub mark-at : fieldAt ev (at + 32) 8 ≡ sectionIn edition1 n ev i 2
-  unfolding sectionIn sectionWidths fieldIn sum
-  mark-at = ap (λ (q : ℕ). fieldAt ev (q + 32) 8) e
 
 -- a section starts 40 bits before its forest
 section-before : (n i : ℕ) → 72 + suc i * (40 + n * 16) - 40 ≡ sectionAt edition1 n i

@@ -29,9 +29,10 @@ use Rattle.evidence.specs.Checks.{headIn, sectionIn, formRight, verdictRight, c
 use Rattle.evidence.specs.Calls.{shownPart}
 use Rattle.checker.specs.Following.{partsFault}
 use Rattle.checker.specs.Forming.{blocksBelow}
-use Rattle.checker.proofs.Alls.{is-true}
+use Rattle.lists.proofs.Alls.{is-true}
 use Rattle.checker.proofs.Forms.{right-form}
-use Rattle.checker.proofs.Parts.{section-at, weighed-at}
+use Rattle.evidence.proofs.Places.{section-at}
+use Rattle.checker.proofs.Parts.{weighed-at}
 use Rattle.checker.proofs.Answering.{map-shift, twice, check-parts, weighings-length}
 
 -- ---- how many blocks are below another

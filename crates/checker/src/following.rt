@@ -5,7 +5,7 @@ ghost use mathlib.Core.List.{List};
 ghost use Prim.Native.Nat.{ℕ, _+_, _-_, _*_, _^_, _≤_, _<_};
 ghost use lib.ListN.{length};
 ghost use Rattle.bits.specs.Bits.{fieldAt};
-ghost use Rattle.rows.specs.Rows.{linkedIn};
+ghost use Rattle.rows.specs.Rows.{linkedIn, locationsMost, slotsMost};
 ghost use Rattle.graph.specs.Held.{heldIn};
 ghost use Rattle.picture.specs.Layout.{edition1};
 ghost use Rattle.picture.specs.Picture.{pictureOf};
@@ -39,7 +39,7 @@ struct Node {
 
 // Node v of the forest that starts at bit q, read as one field.
 fn node_at(ev: &[u8], q: usize, v: usize) -> Node
-    requires { ⌜ (1 ≤ v) × (v ≤ 240) × (q < 2 ^ 20) ⌝ }
+    requires { ⌜ (1 ≤ v) × (v ≤ slotsMost) × (q < 2 ^ 20) ⌝ }
     ensures { λ r. ⌜ (r .parent ≡ nodeFrom (now (ev .entry)) q v .parent) × (r .depth ≡ nodeFrom (now (ev .entry)) q v .depth) ⌝ }
 {
     let both = bits::field(ev, q + (v - 1) * NODE_BITS, NODE_BITS);
@@ -52,16 +52,16 @@ fn node_at(ev: &[u8], q: usize, v: usize) -> Node
 // Whether the node x of slot v keeps its rule in the forest that starts at bit q.
 fn node_right(
     links: &[[u64; WORDS]; LOCATIONS],
-    held: [u64; WORDS],
+    held: &[u64; WORDS],
     ev: &[u8],
     q: usize,
     n: usize,
     v: usize,
     x: Node,
 ) -> bool
-    requires { ⌜ (length (now links) ≡ 241) × (1 ≤ v) × (v ≤ n) × (n ≤ 240) × (q < 2 ^ 20) ⌝ }
+    requires { ⌜ (length (now links) ≡ locationsMost) × (1 ≤ v) × (v ≤ n) × (n ≤ slotsMost) × (q < 2 ^ 20) ⌝ }
     requires { ⌜ (x .parent ≡ nodeFrom (now ev) q v .parent) × (x .depth ≡ nodeFrom (now ev) q v .depth) ⌝ }
-    ensures { λ r. ⌜ r ≡ nodeTest (linkedIn (now (links .entry))) (heldIn held) (forestIn edition1 n (now (ev .entry)) q) v ⌝ }
+    ensures { λ r. ⌜ r ≡ nodeTest (linkedIn (now (links .entry))) (heldIn (now (held .entry))) (forestIn edition1 n (now (ev .entry)) q) v ⌝ }
 {
     let parent = x.parent;
     let depth = x.depth;
@@ -75,8 +75,7 @@ fn node_right(
     if n < parent {
         return false;
     }
-    let row = links[parent];
-    let linked = rows::has(row, v);
+    let linked = rows::has(&links[parent], v);
     if !linked {
         return false;
     }
@@ -92,7 +91,7 @@ fn node_right(
 
 // The held slots of part k, whose forest starts at bit q: all of them, less those of the block that a section evicts.
 fn held_in(held: [u64; WORDS], size: usize, ev: &[u8], q: usize, k: usize) -> [u64; WORDS]
-    requires { ⌜ (40 ≤ q) × (size ≤ 15) × (1 ≤ k → fieldAt (now ev) (q - 40) 8 * size + size ≤ 240) ⌝ }
+    requires { ⌜ (40 ≤ q) × (1 ≤ k → fieldAt (now ev) (q - 40) 8 * size + size ≤ slotsMost) ⌝ }
     ensures { λ r. ⌜ LeftIn held size (fieldAt (now (ev .entry)) (q - 40) 8) k r ⌝ }
 {
     if k == 0 {
@@ -143,22 +142,26 @@ pub fn parts_fault(s: &[u8], h: Header, ev: &[u8], held: [u64; WORDS], count: us
         let mut v: usize = 1;
         while v <= n {
             let x = node_at(ev, q, v);
-            let right = node_right(&links, left, ev, q, n, v, x);
+            let right = node_right(&links, &left, ev, q, n, v, x);
             if !right {
                 fault = FOREST;
                 break 'check;
             }
             if x.depth != 0 {
-                let more = rows::with(slots, v);
-                slots = more;
+                rows::add(&mut slots, v);
             }
             v += 1;
         }
-        let inside = rows::with(slots, 0);
+        let mut inside = slots;
+        rows::add(&mut inside, 0);
         let outside = rows::minus(left, inside);
+        // Where nothing is outside, no link leads there, and none need be looked at.
         let mut a: usize = 0;
+        if rows::none_marked(outside) {
+            a = n + 1;
+        }
         while a <= n {
-            if rows::has(inside, a) {
+            if rows::has(&inside, a) {
                 let row = links[a];
                 if rows::meet(row, outside) {
                     fault = FOREST;

@@ -4,8 +4,8 @@ ghost use mathlib.Core.Bool.{_&&_, _||_};
 ghost use Prim.Native.Nat.{_+_, _*_, _≤_};
 ghost use lib.Dec.{eqb, leb};
 ghost use lib.ListN.{length};
-ghost use Rattle.picture.specs.Layout.{edition1};
-ghost use Rattle.evidence.specs.Layout.{sectionAt};
+ghost use Rattle.rows.specs.Rows.{slotsMost};
+ghost use Rattle.picture.specs.Layout.{blocksMax};
 ghost use Rattle.evidence.specs.Checks.{verdictRight};
 ghost use Rattle.checker.specs.Forming.{blockMarked, blocksMarked, headTest, sectionTest, formTest, blocksBelow, stated};
 use evidence::BLOCK_AT;
@@ -15,11 +15,8 @@ use evidence::COUNT_AT;
 use evidence::COUNT_BITS;
 use evidence::EDITION;
 use evidence::EDITION_BITS;
-use evidence::HEAD_BITS;
 use evidence::LOSS_AT;
 use evidence::MARK_BITS;
-use evidence::NODE_BITS;
-use evidence::SECTION_BITS;
 use evidence::SECTION_LOSS_AT;
 use evidence::SECTION_MARK_AT;
 use evidence::VERDICT_AT;
@@ -35,26 +32,18 @@ pub struct Form {
 
 // Whether block b has a marked slot.
 fn block_marked(near: [u64; WORDS], size: usize, b: usize) -> bool
-    requires { ⌜ (size ≤ 15) × (b * size + size ≤ 240) ⌝ }
+    requires { ⌜ b * size + size ≤ slotsMost ⌝ }
     ensures { λ r. ⌜ r ≡ blockMarked near size b ⌝ }
 {
     rows::meet(network::block_row(size, b), near)
 }
 
-// Where section i starts, in bits.
-pub fn section_at(n: usize, i: usize) -> usize
-    requires { ⌜ (n ≤ 240) × (i ≤ 255) ⌝ }
-    ensures { λ r. ⌜ r ≡ sectionAt edition1 n i ⌝ }
-{
-    HEAD_BITS + n * NODE_BITS + i * (SECTION_BITS + n * NODE_BITS)
-}
-
 // Whether section i is of block b and has a mark of 0 or 1.
 fn section_right(ev: &[u8], n: usize, i: usize, b: usize) -> bool
-    requires { ⌜ (n ≤ 240) × (i ≤ 255) ⌝ }
+    requires { ⌜ (n ≤ slotsMost) × (i ≤ 255) ⌝ }
     ensures { λ r. ⌜ r ≡ sectionTest n (now (ev .entry)) i b ⌝ }
 {
-    let at = section_at(n, i);
+    let at = evidence::section_at(n, i);
     if bits::field(ev, at, BLOCK_BITS) != b {
         return false;
     }
@@ -63,10 +52,10 @@ fn section_right(ev: &[u8], n: usize, i: usize, b: usize) -> bool
 
 // Whether length, edition, verdict and count are right for so many candidates.
 fn head_right(ev: &[u8], n: usize, count: usize) -> bool
-    requires { ⌜ (n ≤ 240) × (count ≤ 255) ⌝ }
+    requires { ⌜ (n ≤ slotsMost) × (count ≤ 255) ⌝ }
     ensures { λ r. ⌜ r ≡ headTest n (now (ev .entry)) count ⌝ }
 {
-    if ev.len() != section_at(n, count) / BYTE_BITS {
+    if ev.len() != evidence::section_at(n, count) / BYTE_BITS {
         return false;
     }
     if bits::field(ev, 0, EDITION_BITS) != EDITION {
@@ -80,7 +69,7 @@ fn head_right(ev: &[u8], n: usize, count: usize) -> bool
 
 // The form of evidence, for the candidates of so many blocks.
 pub fn form_of(ev: &[u8], n: usize, size: usize, blocks: usize, near: [u64; WORDS]) -> Form
-    requires { ⌜ (n ≤ 240) × (size ≤ 15) × (blocks ≤ 60) × (blocks * size ≤ n) ⌝ }
+    requires { ⌜ (n ≤ slotsMost) × (blocks ≤ blocksMax) × (blocks * size ≤ n) ⌝ }
     ensures { λ r. ⌜ (r .right ≡ formTest n (now (ev .entry)) (blocksMarked near size blocks)) × (r .count ≡ length (blocksMarked near size blocks)) ⌝ }
 {
     let mut right = true;
@@ -131,7 +120,7 @@ fn is_named(b: usize, mark: usize, lost: usize, block: usize, loss: usize) -> bo
 // Whether the verdict, its block and its loss are as the sections imply. From the last section to the first the least admissible loss is
 // kept, and whether the head's block is one with the head's loss.
 pub fn verdict_right(ev: &[u8], n: usize, count: usize) -> bool
-    requires { ⌜ (n ≤ 240) × (count ≤ 255) ⌝ }
+    requires { ⌜ (n ≤ slotsMost) × (count ≤ 255) ⌝ }
     ensures { λ r. ⌜ r ≡ verdictRight (now (ev .entry)) (stated n (now (ev .entry)) count) ⌝ }
 {
     let block = bits::field(ev, BLOCK_AT, BLOCK_BITS);
@@ -142,7 +131,7 @@ pub fn verdict_right(ev: &[u8], n: usize, count: usize) -> bool
     let mut i = count;
     while 0 < i {
         i -= 1;
-        let at = section_at(n, i);
+        let at = evidence::section_at(n, i);
         let b = bits::field(ev, at, BLOCK_BITS);
         let lost = bits::field(ev, at + SECTION_LOSS_AT, WEIGHT_BITS);
         let mark = bits::field(ev, at + SECTION_MARK_AT, MARK_BITS);
@@ -168,13 +157,13 @@ pub fn verdict_right(ev: &[u8], n: usize, count: usize) -> bool
 
 // How many sections are of a block below b.
 pub fn sections_below(ev: &[u8], n: usize, count: usize, b: usize) -> usize
-    requires { ⌜ (n ≤ 240) × (count ≤ 255) ⌝ }
+    requires { ⌜ (n ≤ slotsMost) × (count ≤ 255) ⌝ }
     ensures { λ r. ⌜ r ≡ blocksBelow n (now (ev .entry)) count b ⌝ }
 {
     let mut below: usize = 0;
     let mut i: usize = 0;
     while i < count {
-        if bits::field(ev, section_at(n, i), BLOCK_BITS) < b {
+        if bits::field(ev, evidence::section_at(n, i), BLOCK_BITS) < b {
             below += 1;
         }
         i += 1;

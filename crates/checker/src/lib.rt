@@ -3,7 +3,7 @@ ghost use mathlib.Core.Path.{_≡_};
 ghost use Rattle.picture.specs.Answers.{Read};
 ghost use Rattle.evidence.specs.Checks.{checkFault};
 ghost use Rattle.evidence.specs.Calls.{shown, shownPart};
-ghost use Rattle.checker.specs.Answers.{checking};
+ghost use Rattle.checker.specs.Answers.{checking, past};
 
 mod faults;
 mod following;
@@ -96,16 +96,17 @@ fn shown_part(s: &[u8], ev: &[u8]) -> Part
             let b = bits::field(ev, BLOCK_AT, BLOCK_BITS);
             let i = forming::sections_below(ev, n, count, b);
             Part {
-                start: forming::section_at(n, i) / BYTE_BITS,
+                start: evidence::section_at(n, i) / BYTE_BITS,
                 size: (SECTION_BITS + n * NODE_BITS) / BYTE_BITS,
             }
         }
     }
 }
 
-// The chosen candidate's section of the evidence, or its empty part.
+// The chosen candidate's section of the evidence itself, or the empty part at its start.
 pub fn show<'p, 'e>(s: &'p [u8], ev: &'e [u8]) -> &'e [u8]
-    ensures { λ r. ⌜ now r ≡ shown (now (s .entry)) (now (ev .entry)) ⌝ }
+    ensures bytes { λ r. ⌜ now r ≡ shown (now (s .entry)) (now (ev .entry)) ⌝ }
+    ensures place { λ r. ⌜ r .ptr ≡ past (ev .entry .ptr) (shownPart (now (s .entry)) (now (ev .entry)) .start) ⌝ }
 {
     let part = shown_part(s, ev);
     let start = part.start;

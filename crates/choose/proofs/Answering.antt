@@ -8,13 +8,13 @@ use native.Mathlib.Omega.{arith}
 use borrow.Author.Tests.{ne-eqb, eq-eqb, lt-ltb, le-ltb}
 use lib.Dec.{ltb}
 use lib.ListN.{length, drop}
-use Rattle.lists.specs.Lists.{on, first}
+use Rattle.lists.specs.Lists.{on, first, told}
 use Rattle.lists.proofs.Faults.{stop-at, skip-at, end-at}
 use Rattle.picture.specs.Faults.{pictureFault}
 use Rattle.evidence.specs.Canonical.{evidenceOf}
 use Rattle.evidence.specs.Calls.{lengthFor, chooseFault, chosenBytes}
 use Rattle.choose.specs.declared.Choosing.the-variants.{Length, Refused}
-use Rattle.choose.specs.Answers.{choosingOf, choosing}
+use Rattle.choose.specs.Answers.{choosingOf, choosing, choosingNumbers}
 
 told-refused : (k n : ℕ) → k ≢ 0 → Refused k ≡ choosingOf k n
 unfolding choosingOf
@@ -50,3 +50,13 @@ module _ (bs buf : List ℕ) where
         ap Length e ∙ ap (λ (j : ℕ). choosingOf j (lengthFor bs)) right,
         w ∙ sym (ap (λ (t : Bool). cond t (evidenceOf bs ++ drop (lengthFor bs) buf) buf) (eq-eqb _ 0 (sym right))),
       )
+
+-- ---- the numbers of the answer
+
+pub choosing-numbers : (bs buf : List ℕ) → choosingNumbers (choosing bs buf) ≡ told (chooseFault bs buf) (lengthFor bs ∷ [])
+unfolding choosingNumbers choosing choosingOf told
+choosing-numbers bs buf = go (chooseFault bs buf)
+  where
+    go : (k : ℕ) → choosingNumbers (choosingOf k (lengthFor bs)) ≡ told k (lengthFor bs ∷ [])
+    go zero = refl
+    go (suc k) = refl

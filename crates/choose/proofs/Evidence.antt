@@ -8,7 +8,7 @@ use lib.ListN.{length, getD, drop, replicate}
 use Rattle.lists.specs.Lists.{flat, sum}
 use Rattle.rows.specs.Rows.{marked, linkedIn}
 use Rattle.packing.specs.Packing.{Field}
-use Rattle.packing.specs.Holding.{span}
+use Rattle.packing.specs.Holding.{span, Put}
 use Rattle.graph.specs.Held.{heldIn}
 use Rattle.graph.specs.Steps.{Walked}
 use Rattle.picture.specs.declared.Header.{Header}
@@ -29,11 +29,11 @@ use Rattle.evidence.specs.Canonical.{Choice, weighings, least, headFields, fore
 use Rattle.evidence.specs.Calls.{lengthFor}
 use Rattle.evidence.proofs.Fields.{length-forest-of, head-span, length-weighings, candidates-few, served-small, choice-fits, span-bytes}
 use Rattle.evidence.proofs.Written.{written}
-use Rattle.choose.specs.Writing.{Put, nodesIn, HeadFits}
+use Rattle.choose.specs.Writing.{nodesIn, HeadFits}
 use Rattle.choose.specs.Sections.{WeighRows, Room, Sectioned}
-use Rattle.choose.proofs.Writing.{put-behind, put-ahead, put-same}
+use Rattle.packing.proofs.Putting.{put-behind, put-ahead, put-same}
 use Rattle.choose.proofs.Nodes.{span-forest, walked-nodes}
-use Rattle.choose.proofs.Lengths.{evidence-bytes, sections-bytes}
+use Rattle.evidence.proofs.Lengths.{evidence-bytes, sections-bytes}
 
 module _ {bs : List ℕ} {h : Header} (r : Read bs h) where
   -- ---- lengths

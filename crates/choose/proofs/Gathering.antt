@@ -8,7 +8,7 @@ use native.Mathlib.Nat.{zero-add, suc-mul, mul-le-mul-right}
 use native.Mathlib.Numerals.{add-one}
 use lib.ListN.{length, length-append, length-map}
 use Rattle.lists.specs.Lists.{range, filter, flat}
-use Rattle.packing.specs.Holding.{span}
+use Rattle.packing.specs.Holding.{span, Put}
 use Rattle.packing.proofs.Fields.{span-append, span-flat}
 use Rattle.picture.specs.Layout.{edition1}
 use Rattle.picture.specs.Picture.{Picture}
@@ -17,14 +17,13 @@ use Rattle.network.specs.Tests.{Weighed, weighed, isCandidate, candidates}
 use Rattle.network.proofs.Weights.{weighed-block}
 use Rattle.evidence.specs.Layout.{sectionWidths}
 use Rattle.evidence.specs.Canonical.{Choice, weighings, least, fieldsOf, forestFields, forestOf, sectionFields}
-use Rattle.choose.specs.Writing.{Put}
 use Rattle.choose.specs.Sections.{bettered, Room, SectionDone, Sectioned}
 use Rattle.lists.proofs.Growing.{map-append, flat-map-more, filter-more, filter-grows}
-use Rattle.choose.proofs.Writing.{put-none, put-behind, put-same}
+use Rattle.packing.proofs.Putting.{put-none, put-behind, put-same}
 use Rattle.evidence.proofs.Fields.{length-forest-of}
 use Rattle.choose.proofs.Nodes.{span-forest}
 use Rattle.choose.proofs.Least.{least-more}
-use Rattle.choose.proofs.Lengths.{sections-bits}
+use Rattle.evidence.proofs.Lengths.{sections-bits}
 
 -- ---- widths
 

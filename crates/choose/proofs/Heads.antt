@@ -7,12 +7,12 @@ use lib.ListN.{length}
 use Rattle.bits.specs.Bits.{putField}
 use Rattle.bits.proofs.Writing.{length-putField}
 use Rattle.packing.specs.Packing.{Field}
-use Rattle.packing.specs.Holding.{span}
+use Rattle.packing.specs.Holding.{span, Put}
 use Rattle.picture.specs.Layout.{edition1}
 use Rattle.evidence.specs.Layout.{headWidths, sectionWidths}
 use Rattle.evidence.specs.Canonical.{Choice, fieldsOf, headFields, forestFields}
-use Rattle.choose.specs.Writing.{Put, nodesIn, arraySection, SectionFits, HeadFits}
-use Rattle.choose.proofs.Writing.{put-none, put-one, put-behind, put-same}
+use Rattle.choose.specs.Writing.{nodesIn, arraySection, SectionFits, HeadFits}
+use Rattle.packing.proofs.Putting.{put-none, put-one, put-behind, put-same}
 
 -- a field, and then the rest behind it
 pub put-next : {old mid new : List ℕ} {q w v : ℕ} {fs : List Field} → mid ≡ putField old q w v → v < 2 ^ w → q + w ≤ length old * 8 → Put mid (q + w) fs new

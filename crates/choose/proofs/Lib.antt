@@ -1,10 +1,8 @@
 -- Laws of choosing.
-pub mod Writing
 pub mod Nodes
 pub mod Heads
 pub mod Least
 pub mod Counting
-pub mod Lengths
 pub mod Sections
 pub mod Gathering
 pub mod Evidence

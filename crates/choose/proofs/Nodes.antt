@@ -9,7 +9,7 @@ use lib.Dec.{T}
 use lib.ListN.{length, getD, set, length-set, length-map}
 use Rattle.lists.specs.Lists.{range, item, flat}
 use Rattle.lists.proofs.Ranges.{length-range, getD-map-range}
-use Rattle.packing.specs.Holding.{span}
+use Rattle.packing.specs.Holding.{span, Put}
 use Rattle.packing.proofs.Fields.{span-flat}
 use Rattle.graph.specs.Chains.{Entry}
 use Rattle.graph.specs.Rounds.{Node, forest}
@@ -19,9 +19,9 @@ use Rattle.graph.proofs.Keeping.{entries-same}
 use Rattle.picture.specs.Layout.{edition1}
 use Rattle.evidence.specs.Layout.{nodeWidths}
 use Rattle.evidence.specs.Canonical.{fieldsOf, nodeFields, forestFields}
-use Rattle.choose.specs.Writing.{Put, nodesIn}
+use Rattle.choose.specs.Writing.{nodesIn}
 use Rattle.lists.proofs.Growing.{range-more, map-append, flat-map-more}
-use Rattle.choose.proofs.Writing.{put-none, put-one-byte, put-behind, put-same}
+use Rattle.packing.proofs.Putting.{put-none, put-one-byte, put-behind, put-same}
 
 -- ---- widths
 

@@ -5,12 +5,12 @@ use mathlib.Core.List.{List, [], _∷_, _++_}
 use Prim.Native.Nat.{ℕ, _*_, _/_, _≤_, _<_}
 use native.Mathlib.Omega.{arith}
 use lib.ListN.{length}
-use Rattle.rows.specs.Rows.{marked, linkedIn, Meet, Minus}
+use Rattle.rows.specs.Rows.{marked, linkedIn, Meet, Minus, locationsMost}
 use Rattle.graph.specs.Held.{heldIn}
 use Rattle.graph.specs.Steps.{Walked}
 use Rattle.graph.specs.Rounds.{Node}
 use Rattle.picture.specs.declared.Header.{Header}
-use Rattle.picture.specs.Layout.{edition1}
+use Rattle.picture.specs.Layout.{edition1, blocksMax, endpointsMax}
 use Rattle.picture.specs.Picture.{pictureOf}
 use Rattle.picture.specs.Answers.{Read}
 use Rattle.picture.proofs.Facts.{read-limited, read-sizes}
@@ -25,14 +25,15 @@ use Rattle.weigh.proofs.Serving.{walked-over, left-slots, left-held, loss-value
 use Rattle.evidence.specs.Layout.{sectionWidths}
 use Rattle.evidence.specs.Canonical.{fieldsOf, forestFields, forestOf, sectionFields}
 use Rattle.evidence.proofs.Fields.{loss-small}
-use Rattle.choose.specs.Writing.{Put, nodesIn, arraySection, SectionFits}
+use Rattle.choose.specs.Writing.{nodesIn, arraySection, SectionFits}
 use Rattle.choose.specs.Sections.{WeighRows, Left, Room, SectionDone}
-use Rattle.choose.proofs.Writing.{put-same}
+use Rattle.packing.proofs.Putting.{put-same}
+use Rattle.packing.specs.Holding.{Put}
 use Rattle.choose.proofs.Nodes.{walked-nodes}
 use Rattle.choose.proofs.Counting.{candidate-meet}
 
 -- the blocks of an accepted picture are few
-pub blocks-few : (bs : List ℕ) (h : Header) → Read bs h → blockCount (pictureOf bs) ≤ 60
+pub blocks-few : (bs : List ℕ) (h : Header) → Read bs h → blockCount (pictureOf bs) ≤ blocksMax
 blocks-few bs h r = rw (← read-blocks bs h r) (read-sizes bs h r .blocks-most)
 
 -- a block below the header's last is a block of the picture
@@ -56,7 +57,7 @@ module _ {bs : List ℕ} {h : Header} (r : Read bs h) {b : ℕ} {holding nearby 
 
 module _ {bs : List ℕ} {h : Header} {linkTable serviceTable : List (List ℕ)} {weights guarded reached : List ℕ} (r : WeighRows bs h linkTable serviceTable weights guarded reached) where
   -- what the sums need of the rows
-  pub rows-ready : Small weights × (length serviceTable ≡ 241) × (h .endpoints ≤ 200)
+  pub rows-ready : Small weights × (length serviceTable ≡ locationsMost) × (h .endpoints ≤ endpointsMax)
   rows-ready = (
     record { many = r .ends .many; weight = λ u. rw (r .ends .weight u) (weight-small bs u) },
     r .services .many,
@@ -98,7 +99,7 @@ module _ {bs : List ℕ} {h : Header} {linkTable serviceTable : List (List ℕ)}
       pub section-done : {at : ℕ} {buf buf′ : List ℕ} → Put buf (at * 8) (arraySection b lost told ps ds (h .slots)) buf′ → SectionDone (pictureOf bs) b at buf buf′ lost told
       section-done p = record { put = put-same p refl section-same; loss = lost-loss; mark = told-mark }
 
-      pub section-fits : {at : ℕ} {buf : List ℕ} → b < blockCount (pictureOf bs) → Room (h .slots) at 1 buf → length ps ≡ 241 → length ds ≡ 241
+      pub section-fits : {at : ℕ} {buf : List ℕ} → b < blockCount (pictureOf bs) → Room (h .slots) at 1 buf → length ps ≡ locationsMost → length ds ≡ locationsMost
           → SectionFits at (h .slots) b lost told ps ds buf
       section-fits k o e f =
           record {

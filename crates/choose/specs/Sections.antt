@@ -6,6 +6,7 @@ use Prim.Native.Nat.{ℕ, _+_, _*_, _≤_, _<_}
 use lib.Dec.{eqb, ltb}
 use lib.ListN.{length}
 use Rattle.lists.specs.Lists.{flat}
+use Rattle.packing.specs.Holding.{Put}
 use Rattle.rows.specs.Rows.{marked}
 use Rattle.graph.specs.Held.{heldIn, SlotsOnly}
 use Rattle.graph.specs.Steps.{Walked}
@@ -16,10 +17,10 @@ use Rattle.picture.specs.Answers.{Read}
 use Rattle.network.specs.Words.{blockCount, isHeld, heldWithout, joins}
 use Rattle.network.specs.Tests.{Weighed, weighed, candidates}
 use Rattle.network.specs.Rows.{RowsOf, SlotRowsOf, EndpointsOf}
+use Rattle.evidence.specs.Layout.{evidenceMost}
 use Rattle.evidence.specs.Canonical.{Choice, weighings, least, sectionFields}
 use Rattle.evidence.specs.Calls.{lengthFor}
 use Rattle.choose.specs.declared.Choice.{Choice as Kept}
-use Rattle.choose.specs.Writing.{Put}
 
 -- ---- the choice
 
@@ -27,8 +28,8 @@ use Rattle.choose.specs.Writing.{Put}
 unfoldable pub choiceOf : Kept → Choice
 choiceOf c = record { verdict = c .verdict; block = c .block; loss = c .loss }
 
--- the choice with one candidate more, whose number is above all before: it is taken where it cuts no protected endpoint, and nothing or
--- more was lost before
+-- the choice with one candidate more, whose number is above all before: it is taken where it cuts no protected endpoint, and none was
+-- chosen before or one that loses more
 unfoldable pub bettered : Choice → Weighed → Choice
 bettered c w =
     let this : Choice = record { verdict = 1; block = w .block; loss = w .loss } in
@@ -61,7 +62,7 @@ pub record Left (p : Picture) (b : ℕ) (left : List ℕ) : Type 0 where
 -- there is room for c sections from byte q on; the bound keeps a bit's place in the numbers of the code
 pub record Room (n q c : ℕ) (bs : List ℕ) : Type 0 where
   pub fits : q + c * (5 + n * 2) ≤ length bs
-  pub low : q + c * (5 + n * 2) ≤ 30000
+  pub low : q + c * (5 + n * 2) ≤ evidenceMost
 
 -- what a section needs: the rows of some picture, a block, and room
 pub record SectionReady (h : Header) (linkTable serviceTable : List (List ℕ)) (weights guarded reached rest : List ℕ) (b q : ℕ) (buf : List ℕ) : Type 0 where

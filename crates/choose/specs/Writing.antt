@@ -1,23 +1,13 @@
--- What it is to write fields into bytes, and the fields of a forest that stands in arrays. Assumes nothing.
+-- The fields of a forest that stands in arrays, and what fits. Assumes nothing.
 use mathlib.Core.List.{List, [], _∷_, _++_, map}
-use mathlib.Core.Path.{_≡_}
 use Prim.Native.Nat.{ℕ, _+_, _*_, _^_, _≤_, _<_}
 use lib.ListN.{length, getD}
 use Rattle.lists.specs.Lists.{range}
-use Rattle.bits.specs.Bits.{bitAt}
 use Rattle.packing.specs.Packing.{Field}
-use Rattle.packing.specs.Holding.{span, Holds}
 use Rattle.graph.specs.Rounds.{Node}
 use Rattle.picture.specs.Layout.{edition1}
-use Rattle.evidence.specs.Layout.{sectionWidths}
+use Rattle.evidence.specs.Layout.{sectionWidths, evidenceMost}
 use Rattle.evidence.specs.Canonical.{Choice, fieldsOf, forestFields}
-
--- bytes hold fields from bit q on, and are as they were everywhere else
-pub record Put (bs : List ℕ) (q : ℕ) (fs : List Field) (bs′ : List ℕ) : Type 0 where
-  pub long : length bs′ ≡ length bs
-  pub holds : Holds bs′ q fs
-  pub before : (i : ℕ) → i < q → bitAt bs′ i ≡ bitAt bs i
-  pub after : (i : ℕ) → q + span fs ≤ i → bitAt bs′ i ≡ bitAt bs i
 
 -- the nodes of the slots 1 to n, in arrays that start at location 0
 unfoldable pub nodesIn : List ℕ → List ℕ → ℕ → List Node
@@ -31,7 +21,7 @@ arraySection block loss mark parents depths n =
 -- the values of a section's fields fit their widths, and there is room for them. A place is low enough for the numbers of the code
 pub record SectionFits (at n block lost told : ℕ) (parents depths buf : List ℕ) : Type 0 where
   pub room : at + 5 + n * 2 ≤ length buf
-  pub low : at ≤ 30000
+  pub low : at ≤ evidenceMost
   pub number : block < 2 ^ 8
   pub loss : lost < 2 ^ 24
   pub mark : told < 2 ^ 8

@@ -1,19 +1,19 @@
 // Choosing a block, with evidence in a lent buffer.
 ghost use mathlib.Core.Path.{_≡_};
-ghost use mathlib.Core.List.{List, [], _∷_, _++_};
-ghost use Prim.Native.Nat.{ℕ, _+_, _*_, _/_, _^_, _≤_, _<_};
-ghost use lib.ListN.{length, getD, drop};
-ghost use Rattle.picture.specs.Layout.{edition1};
+ghost use mathlib.Core.List.{List, _++_};
+ghost use Prim.Native.Nat.{ℕ, _+_, _*_, _/_, _≤_, _<_};
+ghost use lib.ListN.{length, drop};
+ghost use Rattle.packing.specs.Holding.{Put};
+ghost use Rattle.rows.specs.Rows.{slotsMost};
+ghost use Rattle.picture.specs.Layout.{edition1, blocksMax};
 ghost use Rattle.picture.specs.Picture.{pictureOf};
-ghost use Rattle.picture.specs.Answers.{Read};
-ghost use Rattle.network.specs.Words.{blockCount};
 ghost use Rattle.network.specs.Tests.{candidates};
 ghost use Rattle.network.specs.Rows.{SlotRowsOf};
 ghost use Rattle.evidence.specs.Canonical.{headFields, forestFields, evidenceOf};
 ghost use Rattle.evidence.specs.Layout.{evidenceBytes};
 ghost use Rattle.evidence.specs.Calls.{lengthFor, chosenBytes};
 ghost use Rattle.choose.specs.Answers.{choosing};
-ghost use Rattle.choose.specs.Writing.{Put, nodesIn, arraySection, SectionFits, HeadFits};
+ghost use Rattle.choose.specs.Writing.{nodesIn, arraySection, SectionFits, HeadFits};
 ghost use Rattle.choose.specs.Sections.{choiceOf, bettered, Counted, WeighRows, Left, SectionReady, SectionDone, SectionsReady, Sectioned, EvidenceReady};
 use evidence::BLOCK_AT;
 use evidence::BLOCK_BITS;
@@ -38,6 +38,9 @@ use picture::Reading;
 use rows::LOCATIONS;
 use rows::WORDS;
 use weigh::Lost;
+
+// The number of a buffer that is too short.
+const BUFFER: u8 = 9;
 
 // What choose answers.
 pub enum Choosing {
@@ -67,7 +70,7 @@ fn put_forest(buf: &mut [u8], at: usize, n: usize, parent: &[u8], depth: &[u8])
     }
 }
 
-// The choice with one candidate more: it is taken where it cuts no protected endpoint, and nothing or more was lost before.
+// The choice with one candidate more: it is taken where it cuts no protected endpoint, and none was chosen before or one that loses more.
 fn better(c: Choice, block: u8, loss: u32, mark: u8) -> Choice
     ensures { λ r. ⌜ choiceOf r ≡ bettered (choiceOf c) (record { block = block; loss = loss; mark = mark }) ⌝ }
 {
@@ -92,7 +95,7 @@ fn better(c: Choice, block: u8, loss: u32, mark: u8) -> Choice
 
 // The number of candidates: blocks with a held near slot.
 fn count_candidates(size: usize, blocks: usize, near: [u64; WORDS]) -> usize
-    requires { ⌜ (size ≤ 15) × (blocks * size ≤ 240) ⌝ }
+    requires { ⌜ blocks * size ≤ slotsMost ⌝ }
     ensures { λ r. ⌜ Counted size blocks near r ⌝ }
 {
     let mut count: usize = 0;
@@ -121,12 +124,12 @@ fn put_section(
         ⌜ Put (now (buf .entry)) (at * 8)
         (arraySection b (lost .weight) (lost .mark) (now (parent .entry)) (now (depth .entry)) n) (now (buf .exit)) ⌝ }
 {
-    let block = at * BYTE_BITS;
-    let loss = block + BLOCK_BITS;
-    let mark = loss + WEIGHT_BITS;
-    bits::put_field(buf, block, BLOCK_BITS, b);
-    bits::put_field(buf, loss, WEIGHT_BITS, lost.weight as usize);
-    bits::put_field(buf, mark, MARK_BITS, lost.mark as usize);
+    let block_at = at * BYTE_BITS;
+    let loss_at = block_at + BLOCK_BITS;
+    let mark_at = loss_at + WEIGHT_BITS;
+    bits::put_field(buf, block_at, BLOCK_BITS, b);
+    bits::put_field(buf, loss_at, WEIGHT_BITS, lost.weight as usize);
+    bits::put_field(buf, mark_at, MARK_BITS, lost.mark as usize);
     put_forest(buf, at + SECTION_BYTES, n, parent, depth);
 }
 
@@ -229,11 +232,10 @@ fn put_head(buf: &mut [u8], c: Choice, count: usize, served: usize)
 
 // The bytes of the evidence for n slots and so many candidates.
 fn evidence_bytes(n: usize, count: usize) -> usize
-    requires { ⌜ (n ≤ 240) × (count ≤ 60) ⌝ }
+    requires { ⌜ (n ≤ slotsMost) × (count ≤ blocksMax) ⌝ }
     ensures { λ r. ⌜ r ≡ evidenceBytes edition1 n count ⌝ }
 {
-    let forest = n * NODE_BYTES;
-    HEAD_BYTES + forest + count * (SECTION_BYTES + forest)
+    evidence::section_at(n, count) / BYTE_BITS
 }
 
 // The evidence of an accepted picture, over the front of a buffer that is long enough.
@@ -288,7 +290,7 @@ pub fn choose(s: &[u8], buf: &mut [u8]) -> Choosing
             let count = count_candidates(size, n / size, near);
             let length = evidence_bytes(n, count);
             if buf.len() < length {
-                return Choosing::Refused(9);
+                return Choosing::Refused(BUFFER);
             }
             write_evidence(s, buf, h, slots, count);
             Choosing::Length(length)

@@ -1,12 +1,9 @@
 -- The third demand is met. Assumes nothing.
-use mathlib.Core.Path.{_≡_, refl, sym, ap}
+use mathlib.Core.Path.{_≡_, refl}
 use mathlib.Core.Logic.{_≢_}
-use mathlib.Core.List.{List, [], _∷_, _++_}
-use Prim.Native.Nat.{ℕ, _+_, _≤_}
+use mathlib.Core.List.{List}
+use Prim.Native.Nat.{ℕ, _≤_}
 use native.Mathlib.Omega.{arith}
-use borrow.Author.Tests.{le-ltb}
-use lib.ListN.{length, take, drop}
-use Rattle.lists.specs.Lists.{first, on}
 use Rattle.lists.proofs.Sums.{total-one}
 use Rattle.picture.specs.Picture.{Picture, pictureOf}
 use Rattle.picture.specs.Faults.{pictureFault}
@@ -14,9 +11,9 @@ use Rattle.network.specs.Words.{isHeld}
 use Rattle.network.specs.Tests.{servedWeight}
 use Rattle.network.proofs.Named.{accepted-named}
 use Rattle.evidence.specs.Canonical.{evidenceOf}
-use Rattle.evidence.specs.Calls.{lengthFor, chooseFault, chosenBytes}
+use Rattle.evidence.specs.Calls.{chooseFault}
 use Rattle.evidence.specs.Rules.{Named, Verdict, chosen, none}
-use Rattle.evidence.proofs.Fields.{length-evidence}
+use Rattle.evidence.proofs.Lengths.{choose-takes, chosen-evidence}
 use Rattle.evidence.proofs.Passing.{check-passes}
 use Rattle.evidence.proofs.Canonical.{canonical-passes}
 use Rattle.evidence.proofs.Unique.{same-verdict}
@@ -71,18 +68,9 @@ module _ (bs : List ℕ) (ok : pictureFault bs ≡ 0) {b l : ℕ} (n : Named (pi
 
 -- ---- what choose writes
 
--- where nothing is wrong
-choose-takes : (bs buf : List ℕ) → pictureFault bs ≡ 0 → lengthFor bs ≤ length buf → chooseFault bs buf ≡ 0
-unfolding chooseFault first on
-choose-takes bs buf ok fits = rw (ok, le-ltb (length buf) (lengthFor bs) fits) refl
-
-take-front : (xs ys : List ℕ) → take (length xs) (xs ++ ys) ≡ xs
-take-front [] ys = refl
-take-front (x ∷ xs) ys = ap (λ (zs : List ℕ). x ∷ zs) (take-front xs ys)
-
 written-fixed : (bs buf : List ℕ) → chooseFault bs buf ≡ 0 → written bs buf ≡ evidenceOf bs
-unfolding written chosenBytes lengthFor
-written-fixed bs buf z = rw (z, sym (length-evidence bs)) (take-front (evidenceOf bs) (drop (length (evidenceOf bs)) buf))
+unfolding written
+written-fixed bs buf z = chosen-evidence bs buf z
 
 -- ---- all of it
 

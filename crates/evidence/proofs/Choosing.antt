@@ -11,15 +11,14 @@ use lib.Dec.{T, eqb, leb, eqb→eq, leb→le, nleb→lt}
 use lib.ListN.{length}
 use Rattle.lists.proofs.Tests.{and-T, T-and, or-T, T-or-l, T-or-r, eq-T, either}
 use Rattle.lists.proofs.Sums.{total-one}
-use Rattle.picture.specs.Picture.{Picture, pictureOf}
-use Rattle.picture.specs.Faults.{pictureFault}
+use Rattle.picture.specs.Picture.{Picture}
 use Rattle.network.specs.Words.{blockCount, Candidate, CutsProtected, Loss}
 use Rattle.network.specs.Tests.{Weighed, weighed}
-use Rattle.network.proofs.Named.{Named, accepted-named}
+use Rattle.network.proofs.Named.{Named}
 use Rattle.network.proofs.Weights.{loss-weight, weighed-block}
 use Rattle.evidence.specs.Canonical.{Choice, least, weighings, choice}
 use Rattle.evidence.specs.Rules.{Named as Best, Verdict, chosen, none}
-use Rattle.evidence.proofs.Weighings.{at-place, candidate-weighing, weighing-candidate, clear-admissible, marked-protected, admissible-clear, candidate-below}
+use Rattle.evidence.proofs.Weighings.{at-place, candidate-weighing, weighing-candidate, clear-admissible, marked-protected, admissible-clear}
 
 -- ---- the least of a list of weighings
 
@@ -104,19 +103,12 @@ least-right [] = inr (record { verdict = refl; block = refl; loss = refl; marked
 least-right (w ∷ ws) = one-more w ws (least ws) (least-right ws) (better w ws (least ws)) refl
 
 module _ (ws : List Weighed) where
-  pub least-verdict : least ws .verdict ≤ 1
-  least-verdict = ⊎-elim (λ c. omega (arith, c .verdict)) (λ c. omega (arith, c .verdict)) (least-right ws)
-
   -- verdict 0 is told exactly where every weighing has a mark, and then with block 0 and loss 0
   pub least-none : least ws .verdict ≡ 0 → Nothing ws (least ws)
   least-none z = ⊎-elim (λ c. absurd (omega (arith, c .verdict))) (λ c. c) (least-right ws)
 
   pub none-least : ((j : ℕ) → j < length ws → at-place ws j .mark ≢ 0) → least ws .verdict ≡ 0
   none-least m = ⊎-elim (λ c. absurd (m (c .at) (c .within) (c .clear))) (λ c. c .verdict) (least-right ws)
-
-  -- verdict 1 names the first without a mark of least loss
-  pub least-chosen : least ws .verdict ≡ 1 → Chosen ws (least ws)
-  least-chosen o = ⊎-elim (λ c. c) (λ c. absurd (omega (arith, c .verdict))) (least-right ws)
 
 -- ---- the verdict of the rules
 
@@ -185,6 +177,3 @@ module _ {p : Picture} (n : Named p) (below : (b : ℕ) → Candidate p b → b 
       (λ c. subst (λ (v : ℕ). Verdict p v (least (weighings p) .block) (least (weighings p) .loss)) (sym (c .verdict)) (chosen (least-best (chosen-least c))))
       (λ c. rw (c .verdict, c .block, c .loss) (none (marked-cut (c .marked))))
       (least-right (weighings p))
-
-pub choice-verdict : (bs : List ℕ) → pictureFault bs ≡ 0 → Verdict (pictureOf bs) (choice (pictureOf bs) .verdict) (choice (pictureOf bs) .block) (choice (pictureOf bs) .loss)
-choice-verdict bs z = choice-as-ruled (accepted-named bs z) (candidate-below bs z)

@@ -14,9 +14,10 @@ use Rattle.packing.specs.Packing.{Field}
 use Rattle.packing.specs.Holding.{span, Fit}
 use Rattle.packing.proofs.Fields.{span-append, fit-append, fit-flat, span-flat}
 use Rattle.packing.proofs.Packed.{length-packed}
+use Rattle.rows.specs.Rows.{slotsMost}
 use Rattle.graph.specs.Rounds.{Node, forest}
 use Rattle.graph.proofs.Nodes.{length-forest, forest-at, parent-le, depth-le}
-use Rattle.picture.specs.Layout.{Edition, edition1, editionOf}
+use Rattle.picture.specs.Layout.{Edition, edition1, editionOf, blocksMax}
 use Rattle.picture.specs.Picture.{Picture, headerOf, pictureOf}
 use Rattle.picture.specs.Faults.{pictureFault}
 use Rattle.picture.specs.Answers.{Read}
@@ -121,13 +122,13 @@ module _ (bs : List ℕ) (z : pictureFault bs ≡ 0) where
   read = record { accepted = z; header = refl }
 
   -- n is below 256, so that a location fits
-  pub slots-small : slotCount (pictureOf bs) ≤ 240
+  pub slots-small : slotCount (pictureOf bs) ≤ slotsMost
   slots-small = omega (arith, slots-counted bs, accepted-kept bs z .sizes .slots-most)
 
-  pub blocks-small : blockCount (pictureOf bs) ≤ 60
+  pub blocks-small : blockCount (pictureOf bs) ≤ blocksMax
   blocks-small = omega (arith, read-blocks bs (headerOf bs) read, accepted-kept bs z .sizes .blocks-most)
 
-  pub candidates-few : length (candidates (pictureOf bs)) ≤ 60
+  pub candidates-few : length (candidates (pictureOf bs)) ≤ blocksMax
   unfolding candidates
   candidates-few = omega (arith, length-filter-le (isCandidate p) (range 0 (blockCount p)), length-range 0 (blockCount p), blocks-small)
 
@@ -140,7 +141,7 @@ module _ (bs : List ℕ) (z : pictureFault bs ≡ 0) where
   loss-small b = weights-small bs z _
 
   -- of the weighing at a place
-  block-at : (i : ℕ) → i < length (weighings p) → getD (weighings p) i unweighed .block < 60
+  block-at : (i : ℕ) → i < length (weighings p) → getD (weighings p) i unweighed .block < blocksMax
   block-at i h =
       let s : i < length (candidates p) = omega (arith, length-weighings p) in
       rw (weighing-at p i s, weighed-block p (getD (candidates p) i 0)) (omega (arith, candidates-below p i s, blocks-small))
@@ -152,7 +153,7 @@ module _ (bs : List ℕ) (z : pictureFault bs ≡ 0) where
   mark-at i h = rw (weighing-at p i (omega (arith, length-weighings p))) (mark-le p _)
 
   -- the choice is one of the weighings, or 0, 0 and 0
-  pub choice-fits : (least (weighings (pictureOf bs)) .verdict ≤ 1) × (least (weighings (pictureOf bs)) .block < 60) × (least (weighings (pictureOf bs)) .loss < 2 ^ 24)
+  pub choice-fits : (least (weighings (pictureOf bs)) .verdict ≤ 1) × (least (weighings (pictureOf bs)) .block < blocksMax) × (least (weighings (pictureOf bs)) .loss < 2 ^ 24)
   choice-fits = ⊎-elim
       (λ r. (omega (arith, r .verdict), omega (arith, r .block, block-at (r .at) (r .within)), rw (r .loss) (loss-at (r .at) (r .within))))
       (λ r. (omega (arith, r .verdict), omega (arith, r .block), omega (arith, r .loss)))

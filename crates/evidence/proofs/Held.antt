@@ -10,7 +10,7 @@ use lib.Seq.{ext-getD}
 use Rattle.lists.specs.Lists.{sum}
 use Rattle.packing.specs.Packing.{Field}
 use Rattle.packing.specs.Holding.{span, Holds}
-use Rattle.packing.proofs.Fields.{holds-append, append-holds, holds-flat, flat-holds}
+use Rattle.packing.proofs.Fields.{holds-append, holds-flat}
 use Rattle.packing.proofs.Packed.{packed-holds}
 use Rattle.graph.specs.Rounds.{Node}
 use Rattle.picture.specs.Layout.{Edition, editionOf, fieldIn}
@@ -88,16 +88,6 @@ module _ (e : Edition) (p : Picture) (ev : List ℕ) where
             rw (← weighing-at p i s, ← sections-place i)
             (holds-flat unweighed (sectionFields e p) (sectionBits e (slotCount p)) (section-span e p) ev (sum headWidths + span nodes) (weighings p) (b .1) i (omega (arith, length-weighings p)));
       }
-
-  pub parts-held : Parts e p ev → Holds ev 0 (evidenceFields e p)
-  unfolding evidenceFields
-  parts-held h =
-      append-holds ev 0 head (nodes ++ sections) (h .head)
-      (rw forest-place
-      (append-holds ev (sum headWidths) nodes sections (h .forest)
-      (flat-holds unweighed (sectionFields e p) (sectionBits e (slotCount p)) (section-span e p) ev (sum headWidths + span nodes) (weighings p) (λ i s.
-      let m : i < length (candidates p) = omega (arith, length-weighings p) in
-      rw (weighing-at p i m, sections-place i) (h .sections i m)))))
 
 -- ---- what is read back
 

@@ -1,6 +1,8 @@
 -- Laws of evidence: its tests say what its rules say, a picture's own evidence passes, and every evidence that passes has one verdict.
 pub mod Picked
+pub mod Places
 pub mod Fields
+pub mod Lengths
 pub mod Held
 pub mod Written
 pub mod Forests

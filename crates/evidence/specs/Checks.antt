@@ -26,7 +26,7 @@ headIn ev k = fieldIn ev headWidths 0 k
 unfoldable pub sectionIn : Edition → ℕ → List ℕ → ℕ → ℕ → ℕ
 sectionIn e n ev i k = fieldIn ev sectionWidths (sectionAt e n i) k
 
--- the n nodes from bit q on
+-- the node from bit q on, and the n nodes from there on
 unfoldable pub nodeIn : Edition → List ℕ → ℕ → Node
 nodeIn e ev q = record { parent = fieldIn ev (nodeWidths e) q 0; depth = fieldIn ev (nodeWidths e) q 1 }
 

@@ -30,3 +30,7 @@ sectionAt e n i = sum headWidths + forestBits e n + i * sectionBits e n
 -- the length in bytes for c candidates: 9 + 2n + C(5 + 2n) in edition 1
 unfoldable pub evidenceBytes : Edition → ℕ → ℕ → ℕ
 evidenceBytes e n c = sectionAt e n c / 8
+
+-- the longest evidence, in bytes
+abbrev pub evidenceMost : ℕ
+evidenceMost = 29589

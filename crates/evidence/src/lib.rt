@@ -1,4 +1,12 @@
-// Evidence for a choice: its layout as the numbers that the code uses. `specs/Layout.antt` has the widths that the contracts cite.
+// Evidence for a choice: its layout as the numbers that the code uses, and where a section starts. `specs/Layout.antt` has the widths that
+// the contracts cite.
+ghost use mathlib.Core.Path.{_≡_};
+ghost use Prim.Native.Nat.{_≤_};
+ghost use Rattle.rows.specs.Rows.{slotsMost};
+ghost use Rattle.picture.specs.Layout.{edition1};
+ghost use Rattle.evidence.specs.Layout.{sectionAt};
+use picture::BLOCKS_MAX;
+use picture::SLOTS_MAX;
 
 // Widths in bits, in the order of the fields.
 pub const EDITION_BITS: usize = 4;
@@ -47,5 +55,18 @@ pub const SECTION_BYTES: usize = SECTION_BITS / BYTE_BITS;
 
 pub const NODE_BYTES: usize = NODE_BITS / BYTE_BITS;
 
+// The longest evidence, in bytes: 29,589.
+pub const EVIDENCE_BYTES: usize = HEAD_BYTES
+    + SLOTS_MAX * NODE_BYTES
+    + BLOCKS_MAX * (SECTION_BYTES + SLOTS_MAX * NODE_BYTES);
+
 // The edition that is written and taken.
 pub const EDITION: usize = 1;
+
+// Where section i starts, in bits.
+pub fn section_at(n: usize, i: usize) -> usize
+    requires { ⌜ (n ≤ slotsMost) × (i ≤ 255) ⌝ }
+    ensures { λ r. ⌜ r ≡ sectionAt edition1 n i ⌝ }
+{
+    HEAD_BITS + n * NODE_BITS + i * (SECTION_BITS + n * NODE_BITS)
+}

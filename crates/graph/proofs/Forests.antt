@@ -1,15 +1,11 @@
 -- There is only one forest. Assumes nothing.
 use mathlib.Core.Bool.{Bool}
-use mathlib.Core.List.{List}
-use mathlib.Core.Logic.{⊎-elim}
-use mathlib.Core.Path.{_≡_, refl, sym, subst, _∙_}
+use mathlib.Core.Path.{_≡_, refl, subst}
 use Prim.Native.Nat.{ℕ}
 use native.Mathlib.Omega.{arith}
-use native.Mathlib.Nat.{suc-inj, eq-zero-or-pos}
-use lib.ListN.{getD}
+use native.Mathlib.Nat.{suc-inj}
 use Rattle.graph.specs.Chains.{Reached, Fewest, Lowest, Entry}
 use Rattle.graph.specs.Chains.Entry.{unreached, reached}
-use Rattle.graph.specs.Steps.{Walked}
 use Rattle.graph.proofs.Chains.{fewest-one}
 
 module _ {linked : ℕ → ℕ → Bool} {held : ℕ → Bool} where
@@ -29,12 +25,3 @@ module _ {linked : ℕ → ℕ → Bool} {held : ℕ → Bool} where
   entry-one {v} {p} (reached f l) (reached g m) =
       let e = fewest-one f g in
       (lowest-one (subst (λ j. Lowest linked held v j p) (suc-inj e) l) m, e)
-
-  -- the walk has one result: the parents and the depths of any two are the same
-  pub walked-one : {reaches reaches′ : ℕ → Bool} {parent depth parent′ depth′ : List ℕ} → Walked linked held reaches parent depth → Walked linked held reaches′ parent′ depth′
-      → (v : ℕ) → (getD parent v 0 ≡ getD parent′ v 0) × (getD depth v 0 ≡ getD depth′ v 0)
-  walked-one a b v =
-      ⊎-elim
-      (λ z. rw z (a .parent-origin ∙ sym (b .parent-origin), a .depth-origin ∙ sym (b .depth-origin)))
-      (λ l. entry-one (a .entry v l) (b .entry v l))
-      (eq-zero-or-pos v)

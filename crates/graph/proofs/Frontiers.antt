@@ -8,8 +8,7 @@ use lib.Bits.{bitAnd}
 use lib.Count.{trailingZeros}
 use lib.Dec.{T, eqb, eqb→eq}
 use lib.ListN.{length, getD}
-use Rattle.rows.specs.Rows.{marked, linkedIn}
-use Rattle.rows.specs.Rows.{inWord}
+use Rattle.rows.specs.Rows.{marked, linkedIn, rowWords, inWord}
 use Rattle.graph.specs.Sweeps.{Locations, Ready, Swept}
 use Rattle.rows.proofs.Parts.{done, done-none, done-marks, marks-done}
 use Rattle.rows.proofs.Words.{WordLeft, word-begun, word-picked, word-next, none-in-zero}
@@ -66,8 +65,8 @@ module _ {links : List (List ℕ)} {word base d : ℕ} {fresh₀ parent₀ depth
 
 -- the rows of the locations of the words below i are swept
 pub record RowSweeping (links : List (List ℕ)) (frontier : List ℕ) (d i : ℕ) (fresh₀ parent₀ depth₀ fresh parent depth : List ℕ) : Type 0 where
-  pub low : i ≤ 4
-  pub words : length frontier ≡ 4
+  pub low : i ≤ rowWords
+  pub words : length frontier ≡ rowWords
   pub swept : Swept (done (marked frontier) (fromWord i (marked frontier))) (linkedIn links) d fresh₀ parent₀ depth₀ fresh parent depth
 
 -- a word of a row of locations has locations
@@ -75,7 +74,7 @@ pub row-locations : (row : List ℕ) (i : ℕ) → Locations (marked row) → Lo
 row-locations row i l = record { within = λ v t. l .within v (word-marked row i v t .1) }
 
 module _ {links : List (List ℕ)} {frontier : List ℕ} {d : ℕ} {fresh₀ parent₀ depth₀ : List ℕ} where
-  pub row-sweep-begun : length frontier ≡ 4 → Ready fresh₀ parent₀ depth₀ → RowSweeping links frontier d 0 fresh₀ parent₀ depth₀ fresh₀ parent₀ depth₀
+  pub row-sweep-begun : length frontier ≡ rowWords → Ready fresh₀ parent₀ depth₀ → RowSweeping links frontier d 0 fresh₀ parent₀ depth₀ fresh₀ parent₀ depth₀
   row-sweep-begun l ready =
       record {
         low = omega arith;
@@ -84,7 +83,7 @@ module _ {links : List (List ℕ)} {frontier : List ℕ} {d : ℕ} {fresh₀ par
       }
 
   module _ {i : ℕ} {fresh parent depth : List ℕ} (s : RowSweeping links frontier d i fresh₀ parent₀ depth₀ fresh parent depth) where
-    pub row-sweep-next : {fresh′ parent′ depth′ : List ℕ} → i < 4
+    pub row-sweep-next : {fresh′ parent′ depth′ : List ℕ} → i < rowWords
         → Swept (inWord (getD frontier i 0) (i * 64)) (linkedIn links) d fresh parent depth fresh′ parent′ depth′
         → RowSweeping links frontier d (i + 1) fresh₀ parent₀ depth₀ fresh′ parent′ depth′
     row-sweep-next l word =
@@ -94,5 +93,5 @@ module _ {links : List (List ℕ)} {frontier : List ℕ} {d : ℕ} {fresh₀ par
           swept = swept-then (frontier-joined (from-part i (marked frontier)) (row-picked frontier i) (linkedIn links)) (s .swept) word;
         }
 
-    pub row-sweep-ended : 4 ≤ i → Swept (marked frontier) (linkedIn links) d fresh₀ parent₀ depth₀ fresh parent depth
+    pub row-sweep-ended : rowWords ≤ i → Swept (marked frontier) (linkedIn links) d fresh₀ parent₀ depth₀ fresh parent depth
     row-sweep-ended l = all-swept (fromWord i (marked frontier)) (from-past frontier i (omega (arith, s .words))) (s .swept)

@@ -1,5 +1,4 @@
 -- The locations that a row holds. Assumes nothing.
-use mathlib.Core.Bool.{Bool}
 use mathlib.Core.List.{List}
 use mathlib.Core.Logic.{by-cases}
 use mathlib.Core.Path.{_≡_}
@@ -8,10 +7,8 @@ use native.Mathlib.Omega.{arith}
 use native.Mathlib.Decide.{ℕ-discrete}
 use borrow.Author.Tests.{ne-eqb}
 use lib.Dec.{T}
-use Rattle.graph.specs.Chains.{Fewest}
-use Rattle.rows.specs.Rows.{marked}
+use Rattle.rows.specs.Rows.{marked, slotsMost}
 use Rattle.graph.specs.Held.{heldIn, SlotsOnly}
-use Rattle.graph.proofs.Chains.{fewest-within}
 
 -- a slot is held where the row marks it
 pub slot-held : (held : List ℕ) (v : ℕ) → 0 < v → marked held v ≡ heldIn held v
@@ -20,10 +17,6 @@ slot-held held v l = rw (ne-eqb v 0 (omega arith))
 
 module _ {held : List ℕ} (only : SlotsOnly held) where
   -- no location above the last slot is held
-  pub held-within : (v : ℕ) → T (heldIn held v) → v ≤ 240
+  pub held-within : (v : ℕ) → T (heldIn held v) → v ≤ slotsMost
   held-within v t =
       by-cases (ℕ-discrete v 0) (λ e. omega arith) (λ ne. only .within v (rw (← slot-held held v (omega arith)) at t))
-
-  -- no chain of fewest links has more than 240
-  pub fewest-240 : {linked : ℕ → ℕ → Bool} {v k : ℕ} → Fewest linked (heldIn held) v k → k ≤ 240
-  fewest-240 f = fewest-within 240 held-within f

@@ -141,10 +141,6 @@ module _ (linked : ℕ → ℕ → Bool) (held : ℕ → Bool) (n : ℕ) (named 
   pub forest-kept : ForestKept linked held n (forest linked held n)
   forest-kept = entries-kept (forest linked held n) (length-forest linked held n) computed-entry
 
-  -- a slot of depth 0 is one that is not reached
-  pub depth-zero : (v : ℕ) → 1 ≤ v → v ≤ n → (nodeOf (forest linked held n) v .depth ≡ 0) ↔ (¬ Reached linked held v)
-  depth-zero v h s = entry-zero (computed-entry v h s)
-
   -- and it is the only list of the entries of chains
   pub entries-same : (es : List Node) → length es ≡ n → ((v : ℕ) → 1 ≤ v → v ≤ n → Entry linked held v (nodeOf es v .parent) (nodeOf es v .depth)) → es ≡ forest linked held n
   unfolding nodeOf item

@@ -10,8 +10,7 @@ use native.Mathlib.Nat.{le-of-eq}
 use lib.Bits.{bitAnd, bitXor}
 use lib.Dec.{T, eqb, eqb-refl, eqb→eq}
 use lib.ListN.{length, getD, set, length-set}
-use Rattle.rows.specs.Rows.{marked}
-use Rattle.rows.specs.Rows.{inWord}
+use Rattle.rows.specs.Rows.{marked, rowWords, inWord}
 use Rattle.graph.specs.Sweeps.{Locations, Ready, Entered, Finds, Sweep, Swept}
 use Rattle.graph.specs.Sweeps.Sweep.{entered, kept}
 use Rattle.lists.proofs.Tests.{T?}
@@ -117,12 +116,12 @@ module _ (row fresh : List ℕ) (i : ℕ) where
 
 -- the marks of the words below i are swept
 pub record Sweeping (row : List ℕ) (u d i : ℕ) (fresh₀ parent₀ depth₀ fresh parent depth : List ℕ) : Type 0 where
-  pub low : i ≤ 4
-  pub words : length row ≡ 4
+  pub low : i ≤ rowWords
+  pub words : length row ≡ rowWords
   pub swept : Swept (eqb u) (λ _. done (marked row) (fromWord i (marked row))) d fresh₀ parent₀ depth₀ fresh parent depth
 
 module _ {row : List ℕ} {u d : ℕ} {fresh₀ parent₀ depth₀ : List ℕ} where
-  pub begun : length row ≡ 4 → Ready fresh₀ parent₀ depth₀ → Sweeping row u d 0 fresh₀ parent₀ depth₀ fresh₀ parent₀ depth₀
+  pub begun : length row ≡ rowWords → Ready fresh₀ parent₀ depth₀ → Sweeping row u d 0 fresh₀ parent₀ depth₀ fresh₀ parent₀ depth₀
   begun l ready =
       record {
         low = omega arith;
@@ -131,7 +130,7 @@ module _ {row : List ℕ} {u d : ℕ} {fresh₀ parent₀ depth₀ : List ℕ} w
       }
 
   module _ {i : ℕ} {fresh parent depth : List ℕ} (s : Sweeping row u d i fresh₀ parent₀ depth₀ fresh parent depth) where
-    next : {fresh′ parent′ depth′ : List ℕ} → i < 4 → Swept (eqb u) (λ _. inWord (getD row i 0) (i * 64)) d fresh parent depth fresh′ parent′ depth′
+    next : {fresh′ parent′ depth′ : List ℕ} → i < rowWords → Swept (eqb u) (λ _. inWord (getD row i 0) (i * 64)) d fresh parent depth fresh′ parent′ depth′
         → Sweeping row u d (i + 1) fresh₀ parent₀ depth₀ fresh′ parent′ depth′
     next l w =
         record {
@@ -140,15 +139,15 @@ module _ {row : List ℕ} {u d : ℕ} {fresh₀ parent₀ depth₀ : List ℕ} w
           swept = swept-then (row-joined (from-part i (marked row)) (row-picked row i) u) (s .swept) w;
         }
 
-    pub miss : i < 4 → common row fresh i ≡ 0 → Sweeping row u d (i + 1) fresh₀ parent₀ depth₀ fresh parent depth
+    pub miss : i < rowWords → common row fresh i ≡ 0 → Sweeping row u d (i + 1) fresh₀ parent₀ depth₀ fresh parent depth
     miss l z = next l (word-passed row fresh i u d parent depth (s .swept .ready) z)
 
-    pub hit : {parent′ depth′ : List ℕ} → i < 4 → Entered (inWord (common row fresh i) (i * 64)) u d parent depth parent′ depth′
+    pub hit : {parent′ depth′ : List ℕ} → i < rowWords → Entered (inWord (common row fresh i) (i * 64)) u d parent depth parent′ depth′
         → Sweeping row u d (i + 1) fresh₀ parent₀ depth₀ (set fresh i (bitXor (getD fresh i 0) (common row fresh i))) parent′ depth′
     hit l e =
         next l (word-swept row fresh i u d parent depth (s .swept .ready) (omega (arith, s .swept .ready .words)) _ _ e)
 
-    pub ended : 4 ≤ i → Swept (eqb u) (λ _. marked row) d fresh₀ parent₀ depth₀ fresh parent depth
+    pub ended : rowWords ≤ i → Swept (eqb u) (λ _. marked row) d fresh₀ parent₀ depth₀ fresh parent depth
     ended l =
         let none = from-past row i (omega (arith, s .words)) in
         swept-as

@@ -1,6 +1,7 @@
 -- The rules that a forest from anywhere has to keep. Document 01, "Checking and evicting": "each entry with depth 0 has parent 0; each
--- other slot is held, its parent is the office or a slot of depth above 0, the parent's depth is one less, and a link leads from parent to
--- slot; no link leaves the office or a slot of depth above 0 for a slot of depth 0 that is held". Assumes nothing.
+-- other slot is held and not evicted there, its parent is the office or a slot of depth above 0, the parent's depth is one less, and a link
+-- leads from parent to slot; no link leaves the office or a slot of depth above 0 for a slot of depth 0 that is held and not evicted there".
+-- `held` says of a slot that it is held and not evicted there. Assumes nothing.
 use mathlib.Core.Bool.{Bool}
 use mathlib.Core.Logic.{_⊎_, _≢_}
 use mathlib.Core.List.{List}

@@ -5,7 +5,11 @@ ghost use Rattle.graph.specs.Held.{heldIn, SlotsOnly};
 ghost use Rattle.graph.specs.Steps.{Walked};
 ghost use Rattle.graph.specs.Sweeps.{Locations, Whole, Ready, Entered, Swept};
 use rows::LOCATIONS;
+use rows::SLOTS;
 use rows::WORDS;
+
+// No chain of fewest links steps to a slot twice.
+const DEEPEST: u8 = SLOTS as u8;
 
 pub struct Forest {
     pub parent: [u8; LOCATIONS],
@@ -13,7 +17,7 @@ pub struct Forest {
     pub reached: [u64; WORDS],
 }
 
-// The slots that are marked in a word, of which the first is slot base, get the parent u and the depth d.
+// The slots that are marked in a word, whose first place is location base, get the parent u and the depth d.
 fn enter(
     parent: &mut [u8; LOCATIONS],
     depth: &mut [u8; LOCATIONS],
@@ -125,7 +129,7 @@ pub fn walk(links: [[u64; WORDS]; LOCATIONS], held: [u64; WORDS]) -> Forest
     let mut frontier = [0u64; WORDS];
     frontier[0] = 1;
     let mut d: u8 = 0;
-    while d < 240 {
+    while d < DEEPEST {
         if rows::none_marked(frontier) {
             break;
         }

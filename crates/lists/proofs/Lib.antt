@@ -11,3 +11,5 @@ pub mod Picks
 pub mod Ends
 pub mod Every
 pub mod Growing
+pub mod Scans
+pub mod Alls

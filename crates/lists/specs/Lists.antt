@@ -30,6 +30,11 @@ unfoldable pub lowest : (ℕ → Bool) → List ℕ → ℕ
 lowest f [] = 0
 lowest f (x ∷ xs) = cond (f x) x (lowest f xs)
 
+-- what an answer tells: 0 and its values, or the number of a refusal alone
+unfoldable pub told : ℕ → List ℕ → List ℕ
+told zero vs = 0 ∷ vs
+told (suc k) vs = suc k ∷ []
+
 -- two lists of numbers are equal
 unfoldable pub equal : List ℕ → List ℕ → Bool
 equal [] [] = true

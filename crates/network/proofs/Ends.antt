@@ -3,7 +3,7 @@ use mathlib.Core.Path.{_≡_, sym, ap, _∙_, subst}
 use mathlib.Core.Bool.{false}
 use mathlib.Core.Logic.{by-cases, ⊎-elim}
 use mathlib.Core.List.{List}
-use Prim.Native.Nat.{ℕ, _+_, _≤_, _<_}
+use Prim.Native.Nat.{ℕ, suc, _+_, _≤_, _<_}
 use native.Mathlib.Omega.{arith}
 use native.Mathlib.Decide.{decLe, decLt, ℕ-discrete}
 use lib.Dec.{T}
@@ -11,6 +11,7 @@ use lib.ListN.{length, getD, set, replicate, length-set, length-replicate, getD-
 use lib.Seq.{getD-set-same, getD-set-other}
 use Rattle.lists.proofs.Picks.{item-inside}
 use Rattle.picture.specs.Picture.{Endpoint, Picture, endpointOf}
+use Rattle.picture.specs.Layout.{endpointsMax}
 use Rattle.network.specs.Words.{weightOf}
 use Rattle.network.specs.Rows.{EndpointsOf}
 use Rattle.network.proofs.Making.{Scanned}
@@ -18,7 +19,7 @@ use Rattle.network.proofs.Slots.{scanned-all}
 
 -- the weights of the endpoints from 1 up to c stand in the array, and 0 elsewhere
 pub record Weighing (w : ℕ → ℕ) (weights : List ℕ) (c : ℕ) : Type 0 where
-  pub many : length weights ≡ 201
+  pub many : length weights ≡ suc endpointsMax
   pub seen : (u : ℕ) → 1 ≤ u → u < c → getD weights u 0 ≡ w u
   pub origin : getD weights 0 0 ≡ 0
   pub unseen : (u : ℕ) → c ≤ u → getD weights u 0 ≡ 0
@@ -28,11 +29,11 @@ zeros n u =
     by-cases (decLt u n) (λ l. getD-replicate n u 0 0 l) (λ g. List·getD-eq-default (replicate n 0) 0 {n = u} (omega (arith, length-replicate {A = ℕ} n 0)))
 
 module _ (w : ℕ → ℕ) where
-  pub weighing-begun : Weighing w (replicate 201 0) 1
+  pub weighing-begun : Weighing w (replicate (suc endpointsMax) 0) 1
   weighing-begun =
-      record { many = length-replicate {A = ℕ} 201 0; seen = λ u l m. absurd (omega arith); origin = zeros 201 0; unseen = λ u l. zeros 201 u }
+      record { many = length-replicate {A = ℕ} (suc endpointsMax) 0; seen = λ u l m. absurd (omega arith); origin = zeros (suc endpointsMax) 0; unseen = λ u l. zeros (suc endpointsMax) u }
 
-  pub weighing-next : (weights : List ℕ) (c x : ℕ) → 1 ≤ c → c ≤ 200 → Weighing w weights c → x ≡ w c → Weighing w (set weights c x) (c + 1)
+  pub weighing-next : (weights : List ℕ) (c x : ℕ) → 1 ≤ c → c ≤ endpointsMax → Weighing w weights c → x ≡ w c → Weighing w (set weights c x) (c + 1)
   weighing-next weights c x l m r e =
       record {
         many = length-set weights c x ∙ r .many;

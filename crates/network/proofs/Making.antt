@@ -1,6 +1,6 @@
 -- Rows of marks as the loops make them, mark by mark. Assumes nothing.
 use mathlib.Core.Path.{_≡_, refl, sym, ap, ap₂, _∙_}
-use mathlib.Core.Bool.{Bool, true, false, _&&_, _||_, and-comm, or-false}
+use mathlib.Core.Bool.{Bool, true, false, _&&_, _||_, or-false}
 use mathlib.Core.Logic.{by-cases}
 use mathlib.Core.List.{List, []}
 use Prim.Native.Nat.{ℕ, _+_, _*_, _≤_, _<_}
@@ -9,13 +9,13 @@ use native.Mathlib.Decide.{decLe, decLt, ℕ-discrete}
 use borrow.Author.Tests.{le-leb, lt-leb, lt-ltb, le-ltb, eq-eqb, ne-eqb}
 use lib.Dec.{leb, ltb, eqb}
 use lib.ListN.{length, getD, take, replicate, length-replicate, getD-replicate, List·getD-eq-default}
-use Rattle.lists.specs.Lists.{any}
 use Rattle.lists.proofs.Tests.{is-false}
 use Rattle.lists.proofs.Prefixes.{any-take-none, any-take-more, any-take-all}
-use Rattle.rows.specs.Rows.{marked, linkedIn, With, Linked}
+use Rattle.rows.specs.Rows.{marked, linkedIn, With, Linked, locationsMost, rowWords}
 use Rattle.rows.proofs.Marks.{none-marked}
 use Rattle.picture.specs.declared.Link.{Link}
 use Rattle.picture.specs.Rules.{noLink}
+use Rattle.network.specs.Words.{joins}
 use Rattle.network.specs.Rows.{RowsOf}
 
 -- a row of zeros marks nothing
@@ -31,28 +31,36 @@ clear-table m n a b =
     (λ l. ap (λ (r : List ℕ). marked r b) (getD-replicate m a (replicate n 0) [] l) ∙ clear-row n b)
     (λ g. ap (λ (r : List ℕ). marked r b) (List·getD-eq-default (replicate m (replicate n 0)) [] {n = a} (omega (arith, length-replicate m (replicate {A = ℕ} n 0)))) ∙ clear-row 0 b)
 
--- ---- a table, link by link
+-- ---- a table, mark by mark
 
--- i links are marked, each where the test says
-pub record Linking (test : Link → ℕ → ℕ → Bool) (ls : List Link) (table : List (List ℕ)) (i : ℕ) : Type 0 where
-  pub many : length table ≡ 241
-  pub same : (x y : ℕ) → linkedIn table x y ≡ any (λ l. test l x y) (take i ls)
+eqb-comm : (a b : ℕ) → eqb a b ≡ eqb b a
+eqb-comm a b = by-cases (ℕ-discrete a b) (λ e. eq-eqb a b e ∙ sym (eq-eqb b a (sym e))) (λ n. ne-eqb a b n ∙ sym (ne-eqb b a (λ e. n (sym e))))
 
-module _ (test : Link → ℕ → ℕ → Bool) (ls : List Link) where
-  pub linking-begun : Linking test ls (replicate 241 (replicate 4 0)) 0
-  linking-begun = record { many = length-replicate 241 (replicate {A = ℕ} 4 0); same = λ x y. clear-table 241 4 x y ∙ sym (any-take-none noLink (λ l. test l x y) ls) }
+-- the link leads from x to y
+abbrev leads : ℕ → ℕ → Link → Bool
+leads x y l = eqb (l .from) x && eqb (l .to) y
+
+-- a table of the first i links
+abbrev pub Linking : List Link → List (List ℕ) → ℕ → Type 0
+Linking ls table i = RowsOf (joins (take i ls)) table
+
+module _ (ls : List Link) where
+  pub linking-begun : Linking ls (replicate locationsMost (replicate rowWords 0)) 0
+  unfolding joins
+  linking-begun = record { many = length-replicate locationsMost (replicate {A = ℕ} rowWords 0); same = λ x y. clear-table locationsMost rowWords x y ∙ sym (any-take-none noLink (leads x y) ls) }
 
   -- a link that is marked a second time counts once: its mark is there already
-  pub linking-next : (table table′ : List (List ℕ)) (i a b : ℕ) → Linking test ls table i → i < length ls → Linked table a b table′
-      → ((x y : ℕ) → (eqb x a && eqb y b) ≡ test (getD ls i noLink) x y) → Linking test ls table′ (i + 1)
-  linking-next table table′ i a b l h m e =
-      record {
-        many = m .many ∙ l .many;
-        same = λ x y. m .links x y ∙ ap₂ _||_ (l .same x y) (e x y) ∙ sym (any-take-more noLink (λ l. test l x y) ls i h);
-      }
+  pub linking-next : (table table′ : List (List ℕ)) (i : ℕ) (l : Link) → Linking ls table i → i < length ls → l ≡ getD ls i noLink → Linked table (l .from) (l .to) table′
+      → Linking ls table′ (i + 1)
+  unfolding joins
+  linking-next table table′ i l k h e m = record { many = m .many ∙ k .many; same = λ x y. m .links x y ∙ ap₂ _||_ (k .same x y) (here x y) ∙ sym (any-take-more noLink (leads x y) ls i h) }
+    where
+      here : (x y : ℕ) → (eqb x (l .from) && eqb y (l .to)) ≡ leads x y (getD ls i noLink)
+      here x y = ap₂ _&&_ (eqb-comm x (l .from)) (eqb-comm y (l .to)) ∙ ap (leads x y) e
 
-  pub linking-ended : (table : List (List ℕ)) (i : ℕ) → Linking test ls table i → length ls ≤ i → RowsOf (λ x y. any (λ l. test l x y) ls) table
-  linking-ended table i l h = record { many = l .many; same = λ x y. l .same x y ∙ any-take-all noLink (λ l. test l x y) ls i h }
+  pub linking-ended : (table : List (List ℕ)) (i : ℕ) → Linking ls table i → length ls ≤ i → RowsOf (joins ls) table
+  unfolding joins
+  linking-ended table i k h = record { many = k .many; same = λ x y. k .same x y ∙ any-take-all noLink (leads x y) ls i h }
 
 -- ---- a row, slot by slot
 
@@ -124,15 +132,3 @@ module _ (size b : ℕ) where
           (decLe u (b * size + k))
           (λ l. rw (ne-eqb u (b * size + (k + 1)) n, le-leb u (b * size + k) l, le-leb u (b * size + (k + 1)) (omega arith)) (or-false (leb (b * size + 1) u && true)))
           (λ g. rw (ne-eqb u (b * size + (k + 1)) n, lt-leb u (b * size + k) (omega arith), lt-leb u (b * size + (k + 1)) (omega arith)) (or-false (leb (b * size + 1) u && false))))
-
--- ---- the marks of a link
-
-pub eqb-comm : (a b : ℕ) → eqb a b ≡ eqb b a
-eqb-comm a b = by-cases (ℕ-discrete a b) (λ e. eq-eqb a b e ∙ sym (eq-eqb b a (sym e))) (λ n. ne-eqb a b n ∙ sym (ne-eqb b a (λ e. n (sym e))))
-
--- the mark of a link in the row of its first end, and in the row of its second
-pub link-mark : (l : Link) (x y : ℕ) → (eqb x (l .from) && eqb y (l .to)) ≡ (eqb (l .from) x && eqb (l .to) y)
-link-mark l x y = ap₂ _&&_ (eqb-comm x (l .from)) (eqb-comm y (l .to))
-
-pub service-mark : (l : Link) (x y : ℕ) → (eqb x (l .to) && eqb y (l .from)) ≡ (eqb (l .from) y && eqb (l .to) x)
-service-mark l x y = ap₂ _&&_ (eqb-comm x (l .to)) (eqb-comm y (l .from)) ∙ and-comm (eqb (l .to) x) (eqb (l .from) y)

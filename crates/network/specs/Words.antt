@@ -1,4 +1,5 @@
--- Held, near, blocks, chains, service, cuts, loss, candidates: document 01, "Words", in its order. Assumes nothing.
+-- Blocks, held, served, cut, served weight, loss, candidates: document 01, "Words". Chains are in the crate `graph`, and near is a field of
+-- a slot. Assumes nothing.
 use mathlib.Core.Bool.{Bool, true, not, _&&_}
 use mathlib.Core.List.{List}
 use Prim.Native.Nat.{ℕ, zero, suc, _+_, _*_, _/_, _≤_}

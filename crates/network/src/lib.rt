@@ -1,10 +1,11 @@
 // A picture's network as rows of marks: links, service links, held and near slots, blocks, and the endpoints' weights.
 ghost use mathlib.Core.Path.{_≡_};
-ghost use Prim.Native.Nat.{ℕ, _+_, _*_, _≤_};
+ghost use Prim.Native.Nat.{_+_, _*_, _≤_};
+ghost use Rattle.rows.specs.Rows.{slotsMost};
 ghost use Rattle.picture.specs.Picture.{pictureOf};
 ghost use Rattle.picture.specs.Answers.{Read};
 ghost use Rattle.network.specs.Words.{joins, isHeld};
-ghost use Rattle.network.specs.Rows.{RowsOf, isNearHeld, SlotRowsOf, BlockRow, EndpointsOf};
+ghost use Rattle.network.specs.Rows.{countOf, tableOf, RowsOf, isNearHeld, SlotRowsOf, BlockRow, EndpointsOf};
 use picture::ENDPOINTS_MAX;
 use picture::HELD;
 use picture::Header;
@@ -26,20 +27,32 @@ pub struct Endpoints {
     pub protected: [u64; WORDS],
 }
 
+// The rows of the links, or of the service links; `count` says how many these are.
+fn mark_rows(s: &[u8], h: Header, count: usize, services: bool) -> [[u64; WORDS]; LOCATIONS]
+    requires { ⌜ Read (now s) h × (count ≡ countOf services h) ⌝ }
+    ensures { λ r. ⌜ RowsOf (tableOf services (pictureOf (now (s .entry)))) r ⌝ }
+{
+    let mut table = [[0u64; WORDS]; LOCATIONS];
+    let mut i: usize = 0;
+    while i < count {
+        if services {
+            let l = picture::nth_service_link(s, h, i);
+            rows::mark(&mut table, l.to, l.from);
+        } else {
+            let l = picture::nth_link(s, h, i);
+            rows::mark(&mut table, l.from, l.to);
+        }
+        i += 1;
+    }
+    table
+}
+
 // The links: row a marks b where a link leads from a to b.
 pub fn link_rows(s: &[u8], h: Header) -> [[u64; WORDS]; LOCATIONS]
     requires { ⌜ Read (now s) h ⌝ }
     ensures { λ r. ⌜ RowsOf (joins (pictureOf (now (s .entry)) .links)) r ⌝ }
 {
-    let mut table = [[0u64; WORDS]; LOCATIONS];
-    let count = h.links;
-    let mut i: usize = 0;
-    while i < count {
-        let l = picture::nth_link(s, h, i);
-        rows::mark(&mut table, l.from, l.to);
-        i += 1;
-    }
-    table
+    mark_rows(s, h, h.links, false)
 }
 
 // The service links: row c marks each location that serves endpoint c.
@@ -47,15 +60,7 @@ pub fn service_rows(s: &[u8], h: Header) -> [[u64; WORDS]; LOCATIONS]
     requires { ⌜ Read (now s) h ⌝ }
     ensures { λ r. ⌜ RowsOf (λ c a. joins (pictureOf (now (s .entry)) .services) a c) r ⌝ }
 {
-    let mut table = [[0u64; WORDS]; LOCATIONS];
-    let count = h.service_links;
-    let mut i: usize = 0;
-    while i < count {
-        let l = picture::nth_service_link(s, h, i);
-        rows::mark(&mut table, l.to, l.from);
-        i += 1;
-    }
-    table
+    mark_rows(s, h, h.service_links, true)
 }
 
 // Whether slot v is held.
@@ -88,12 +93,10 @@ pub fn slot_rows(s: &[u8], h: Header) -> SlotRows
     let mut v: usize = 1;
     while v <= n {
         if is_held(s, h, v) {
-            let more = rows::with(held, v);
-            held = more;
+            rows::add(&mut held, v);
         }
         if is_near_held(s, h, v) {
-            let more = rows::with(near, v);
-            near = more;
+            rows::add(&mut near, v);
         }
         v += 1;
     }
@@ -102,7 +105,7 @@ pub fn slot_rows(s: &[u8], h: Header) -> SlotRows
 
 // The slots of block b.
 pub fn block_row(size: usize, b: usize) -> [u64; WORDS]
-    requires { ⌜ (size ≤ 15) × (b * size + size ≤ 240) ⌝ }
+    requires { ⌜ b * size + size ≤ slotsMost ⌝ }
     ensures { λ r. ⌜ BlockRow size b r ⌝ }
 {
     let start = b * size;
@@ -110,8 +113,7 @@ pub fn block_row(size: usize, b: usize) -> [u64; WORDS]
     let mut k: usize = 0;
     while k < size {
         k += 1;
-        let more = rows::with(row, start + k);
-        row = more;
+        rows::add(&mut row, start + k);
     }
     row
 }
@@ -128,8 +130,7 @@ pub fn endpoint_rows(s: &[u8], h: Header) -> Endpoints
     while c <= d {
         weights[c] = picture::endpoint_weight(s, h, c) as u32;
         if picture::endpoint_protected(s, h, c) {
-            let more = rows::with(protected, c);
-            protected = more;
+            rows::add(&mut protected, c);
         }
         c += 1;
     }

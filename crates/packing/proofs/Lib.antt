@@ -2,4 +2,4 @@
 pub mod Fields
 pub mod Packed
 pub mod Written
-pub mod Bytes
+pub mod Putting

@@ -1,17 +1,17 @@
 -- Laws of bytes that fields are written to: bytes that hold the fields are the packed ones, and a write leaves the fields beside it.
 -- Assumes nothing.
-use mathlib.Core.Path.{_≡_, sym, ap, ap₂, _∙_}
-use mathlib.Core.Logic.{inl, inr, by-cases}
+use mathlib.Core.Path.{_≡_, sym, ap, _∙_}
+use mathlib.Core.Logic.{by-cases}
 use mathlib.Core.List.{List, [], _∷_, _++_}
 use Prim.Native.Nat.{ℕ, suc, _+_, _-_, _*_, _/_, _%_, _^_, _<_, _≤_}
 use native.Mathlib.Omega.{arith}
-use native.Mathlib.Nat.{add-assoc, zero-add, mod-eq-of-lt, div-one, mul-one}
+use native.Mathlib.Nat.{add-assoc, zero-add, mod-eq-of-lt}
 use native.Mathlib.Decide.{decLt}
-use lib.ListN.{length, getD, drop, set, length-append, length-drop, List·getD-append}
+use lib.ListN.{length, getD, drop, length-append, length-drop, List·getD-append}
 use lib.Seq.{getD-drop, getD-append-add, ext-getD}
 use Rattle.bits.specs.Bits.{bitAt, number, fieldAt, putField}
 use Rattle.bits.proofs.Reading.{number-ext, bitAt-lt, fieldAt-byte}
-use Rattle.bits.proofs.Writing.{patched, putField-out, putField-byte, field-put}
+use Rattle.bits.proofs.Writing.{field-put}
 use Rattle.packing.specs.Packing.{Field, packed}
 use Rattle.packing.specs.Holding.{span, Fit, Holds}
 use Rattle.packing.proofs.Packed.{number-bit, length-packed, packed-byte, packed-holds}
@@ -99,22 +99,3 @@ held-packed buf bs fs k fit e room n hs hb held rest = rw (← size) (bytes-ext 
 pub put-holds : (bs : List ℕ) (q : ℕ) (f : Field) → f .value < 2 ^ f .width → q + f .width ≤ length bs * 8
     → fieldAt (putField bs q (f .width) (f .value)) q (f .width) ≡ f .value
 put-holds bs q f h room = field-put bs q (f .width) (f .value) room ∙ mod-eq-of-lt h
-
--- fields before it stay held
-pub holds-put-after : (bs : List ℕ) (q : ℕ) (fs : List Field) (p w v : ℕ) → Holds bs q fs → q + span fs ≤ p → p + w ≤ length bs * 8 → Holds (putField bs p w v) q fs
-holds-put-after bs q fs p w v h o room = holds-ext bs (putField bs p w v) q fs (λ i s. sym (putField-out bs p w v (q + i) room (inl (omega arith)))) h
-
--- fields behind it stay held
-pub holds-put-before : (bs : List ℕ) (q : ℕ) (fs : List Field) (p w v : ℕ) → Holds bs q fs → p + w ≤ q → p + w ≤ length bs * 8 → Holds (putField bs p w v) q fs
-holds-put-before bs q fs p w v h o room = holds-ext bs (putField bs p w v) q fs (λ i s. sym (putField-out bs p w v (q + i) room (inr (omega arith)))) h
-
--- eight bits written from a byte's first on are the byte; an element above 255 would keep its upper digits
-pub put-byte : (bs : List ℕ) (k v : ℕ) → k < length bs → v < 256 → getD bs k 0 < 256 → putField bs (k * 8) 8 v ≡ set bs k v
-unfolding patched
-put-byte bs k v s hv hb =
-    let byte : k * 8 / 8 ≡ k = omega arith in
-    let place : 8 - k * 8 % 8 - 8 ≡ 0 = omega arith in
-    putField-byte bs (k * 8) 8 v (omega arith) (omega arith) ∙ ap₂ (λ (i e : ℕ). set bs i (patched (getD bs i 0) e 8 v)) byte place ∙ ap (set bs k) all
-  where
-    all : patched (getD bs k 0) 0 8 v ≡ v
-    all = simp (div-one, mul-one) (omega (arith, mod-eq-of-lt hb, mod-eq-of-lt hv))

@@ -4,11 +4,12 @@ use mathlib.Core.Logic.{_≢_}
 use mathlib.Core.List.{List}
 use Prim.Native.Nat.{ℕ, zero, suc}
 use native.Mathlib.Omega.{arith}
+use Rattle.lists.specs.Lists.{told}
 use Rattle.picture.specs.declared.Header.{Header}
 use Rattle.picture.specs.declared.Reading.the-variants.{Accepted, Refused}
 use Rattle.picture.specs.Picture.{headerOf}
 use Rattle.picture.specs.Faults.{pictureFault}
-use Rattle.picture.specs.Answers.{readingOf, reading, Read}
+use Rattle.picture.specs.Answers.{headerValues, readingOf, reading, readingNumbers, Read}
 
 -- ---- from the number to the answer
 
@@ -39,3 +40,13 @@ refused-fault bs k e = go (pictureFault bs) refl e
     go : (j : ℕ) → pictureFault bs ≡ j → Refused k ≡ readingOf j (headerOf bs) → (pictureFault bs ≡ k) × (k ≢ 0)
     go zero f q = let z : _≡_ {A = ℕ} 0 1 = cc in absurd (omega arith)
     go (suc j) f q = let s : k ≡ suc j = cc in (f ∙ sym s, λ z. absurd (omega arith))
+
+-- ---- the numbers of the answer
+
+pub reading-numbers : (bs : List ℕ) → readingNumbers (reading bs) ≡ told (pictureFault bs) (headerValues (headerOf bs))
+unfolding readingNumbers reading readingOf told
+reading-numbers bs = go (pictureFault bs)
+  where
+    go : (k : ℕ) → readingNumbers (readingOf k (headerOf bs)) ≡ told k (headerValues (headerOf bs))
+    go zero = refl
+    go (suc k) = refl

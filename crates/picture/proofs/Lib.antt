@@ -4,3 +4,5 @@ pub mod Judging
 pub mod Accepted
 pub mod Answering
 pub mod Facts
+pub mod Fronts
+pub mod Long

@@ -1,5 +1,5 @@
 -- What reading a picture answers, by document 01's numbers. Assumes nothing.
-use mathlib.Core.List.{List}
+use mathlib.Core.List.{List, [], _∷_}
 use mathlib.Core.Path.{_≡_}
 use Prim.Native.Nat.{ℕ, zero, suc}
 use Rattle.picture.specs.declared.Header.{Header}
@@ -8,6 +8,10 @@ use Rattle.picture.specs.declared.Reading.the-variants.{Accepted, Refuse
 use Rattle.picture.specs.Picture.{headerOf}
 use Rattle.picture.specs.Faults.{pictureFault}
 
+-- β, n, κ, D, L, S
+unfoldable pub headerValues : Header → List ℕ
+headerValues h = h .«block_size» ∷ h .slots ∷ h .«near_limit» ∷ h .endpoints ∷ h .links ∷ h .«service_links» ∷ []
+
 -- 0 is accepted, with the header's numbers; any other number is a refusal, which gives its number and nothing else
 unfoldable pub readingOf : ℕ → Header → Reading
 readingOf zero h = Accepted h
@@ -15,6 +19,11 @@ readingOf (suc k) h = Refused (suc k)
 
 unfoldable pub reading : List ℕ → Reading
 reading bs = readingOf (pictureFault bs) (headerOf bs)
+
+-- 01's number and values for each case
+unfoldable pub readingNumbers : Reading → List ℕ
+readingNumbers (Accepted h) = 0 ∷ headerValues h
+readingNumbers (Refused k) = k ∷ []
 
 -- the bytes are accepted, and the header is theirs: what the functions on an accepted picture rely on
 pub record Read (bs : List ℕ) (h : Header) : Type 0 where

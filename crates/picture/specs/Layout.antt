@@ -66,6 +66,10 @@ endpointsMax = 200
 abbrev pub linksMax : ℕ
 linksMax = 2000
 
+-- the longest picture, in bytes
+abbrev pub pictureMost : ℕ
+pictureMost = 8522
+
 -- state 3 is none of held, recoverable and freed
 abbrev pub noState : ℕ
 noState = 3

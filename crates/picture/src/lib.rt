@@ -1,6 +1,5 @@
 // A picture of one bundle: its layout, the first fault of any bytes, and the fields of an accepted one.
 ghost use mathlib.Core.Path.{_≡_};
-ghost use mathlib.Core.Bool.{Bool};
 ghost use mathlib.Core.List.{[], _∷_, map};
 ghost use Prim.Native.Nat.{_+_, _-_, _*_, _≤_, _<_};
 ghost use lib.ListN.{length, getD};
@@ -11,6 +10,8 @@ ghost use Rattle.picture.specs.Picture.{headerIn, linkAt, pictureWith, s
 ghost use Rattle.picture.specs.Faults.{sizesRight, countsRight, slotFault, linkFault, serviceFault, endRight, partFaults, pictureFault};
 ghost use Rattle.picture.specs.Rules.{Limited, noLink};
 ghost use Rattle.picture.specs.Answers.{reading};
+
+mod faults;
 
 // Widths in bits, in the order of the fields.
 const EDITION_BITS: usize = 4;
@@ -66,7 +67,7 @@ const EDITION: usize = 1;
 
 const LEAST_BYTES: usize = 7;
 
-pub const BLOCK_SIZE_MAX: usize = 8;
+const BLOCK_SIZE_MAX: usize = 8;
 
 pub const SLOTS_MAX: usize = 240;
 
@@ -74,7 +75,16 @@ pub const BLOCKS_MAX: usize = 60;
 
 pub const ENDPOINTS_MAX: usize = 200;
 
-pub const LINKS_MAX: usize = 2000;
+const LINKS_MAX: usize = 2000;
+
+// The longest picture, in bytes: 8,522.
+pub const PICTURE_BYTES: usize = (HEADER_BITS
+    + SLOTS_MAX * SLOT_ROW
+    + ENDPOINTS_MAX * ENDPOINT_ROW
+    + LINKS_MAX * LINK_ROW
+    + LINKS_MAX * SERVICE_ROW
+    + 7)
+    / 8;
 
 // States of a slot; NO_STATE is the fourth pattern of its two bits.
 pub const HELD: usize = 0;
@@ -187,7 +197,7 @@ fn find_places(h: Header) -> Places
 }
 
 // The bytes that a picture with this header takes.
-pub fn size_of(h: Header) -> usize
+fn size_of(h: Header) -> usize
     requires { ⌜ Limited h ⌝ }
     ensures { λ r. ⌜ r ≡ sizeOf edition1 h ⌝ }
 {
@@ -290,7 +300,7 @@ fn states_fault(s: &[u8], h: Header) -> u8
     let mut i: usize = 0;
     while i < n {
         if slot_state(s, h, i + 1) == NO_STATE {
-            return 5;
+            return faults::STATE;
         }
         i += 1;
     }
@@ -304,10 +314,10 @@ fn link_fault(l: Link, n: usize) -> u8
     let from = l.from;
     let to = l.to;
     if n < from {
-        return 6;
+        return faults::LINK;
     }
     if n < to {
-        return 6;
+        return faults::LINK;
     }
     0
 }
@@ -336,13 +346,13 @@ fn service_fault(l: Link, n: usize, d: usize) -> u8
     let from = l.from;
     let to = l.to;
     if n < from {
-        return 6;
+        return faults::SERVICE_LINK;
     }
     if to == 0 {
-        return 6;
+        return faults::SERVICE_LINK;
     }
     if d < to {
-        return 6;
+        return faults::SERVICE_LINK;
     }
     0
 }
@@ -397,7 +407,7 @@ fn parts_fault(s: &[u8], h: Header) -> u8
     if end_right(s, h) {
         return 0;
     }
-    7
+    faults::END
 }
 
 // The number of the first fault, or 0.
@@ -405,22 +415,22 @@ fn fault(s: &[u8]) -> u8
     ensures { λ r. ⌜ r ≡ pictureFault (now (s .entry)) ⌝ }
 {
     if s.len() < LEAST_BYTES {
-        return 1;
+        return faults::SHORT;
     }
     if bits::field(s, 0, EDITION_BITS) != EDITION {
-        return 2;
+        return faults::EDITION;
     }
     let h = header_of(s);
     let sizes = sizes_right(h);
     if !sizes {
-        return 3;
+        return faults::SIZES;
     }
     let counts = counts_right(h);
     if !counts {
-        return 4;
+        return faults::COUNTS;
     }
     if s.len() < size_of(h) {
-        return 1;
+        return faults::SHORT;
     }
     parts_fault(s, h)
 }

@@ -14,8 +14,7 @@ use borrow.Author.Tests.{eq-eqb, ne-eqb}
 use lib.Dec.{T, T-not, leb, eqb, leb→le, le→leb, eqb→eq}
 use lib.ListN.{length, getD, set, length-set, List·getD-eq-default}
 use lib.Seq.{getD-set-same, getD-set-other}
-use Rattle.rows.specs.Rows.{bit, marked, linkedIn, With, Linked, Meet}
-use Rattle.rows.specs.Rows.{inWord}
+use Rattle.rows.specs.Rows.{bit, marked, linkedIn, With, Linked, Meet, rowWords, inWord}
 use Rattle.lists.proofs.Tests.{and-T, T-and, eq-T}
 use Rattle.rows.proofs.Digits.{bit-none, digit-and, digit-or, digit-xor, digit-shifted}
 use Rattle.rows.proofs.Words.{in-word, word-in, both-words, common-words, none-in-zero, word-begun, word-here}
@@ -220,14 +219,14 @@ or-none a b e = (omega (arith, or-add-and a b, and-le-l a b, and-le-r a b), omeg
 
 -- of the words of two rows, i are looked at, and `seen` is 0 where they have nothing in common
 pub record Looked (one other : List ℕ) (seen i : ℕ) : Type 0 where
-  pub within : i ≤ 4
-  pub ones : length one ≡ 4
-  pub others : length other ≡ 4
+  pub within : i ≤ rowWords
+  pub ones : length one ≡ rowWords
+  pub others : length other ≡ rowWords
   pub none : seen ≡ 0 → (j : ℕ) → j < i → bitAnd (getD one j 0) (getD other j 0) ≡ 0
   pub some : (seen ≡ 0 → ⊥) → (j : ℕ) × (j < i) × (getD one j 0 < 2 ^ 64) × (bitAnd (getD one j 0) (getD other j 0) ≡ 0 → ⊥)
 
 module _ (one other : List ℕ) (seen i : ℕ) where
-  pub looked-next : Looked one other seen i → i < 4 → getD one i 0 < 2 ^ 64 → Looked one other (bitOr seen (bitAnd (getD one i 0) (getD other i 0))) (i + 1)
+  pub looked-next : Looked one other seen i → i < rowWords → getD one i 0 < 2 ^ 64 → Looked one other (bitOr seen (bitAnd (getD one i 0) (getD other i 0))) (i + 1)
   looked-next l h small =
       let w : ℕ = bitAnd (getD one i 0) (getD other i 0) in
       record {
@@ -243,7 +242,7 @@ module _ (one other : List ℕ) (seen i : ℕ) where
             (λ ne. (i, omega arith, small, ne));
       }
 
-  pub looked-all : Looked one other seen i → 4 ≤ i → Meet one other (not (eqb seen 0))
+  pub looked-all : Looked one other seen i → rowWords ≤ i → Meet one other (not (eqb seen 0))
   looked-all l h =
       record {
         common = λ t. common (l .some (λ z. T-not (eqb seen 0) t (eq-T seen 0 z)));
@@ -269,6 +268,6 @@ module _ (one other : List ℕ) (seen i : ℕ) where
       apart none v a b =
           let j : ℕ = v / 64 in
           by-cases
-          (decLt j 4)
+          (decLt j rowWords)
           (λ s. none-in-zero (bitAnd (getD one j 0) (getD other j 0)) (j * 64) (none j (omega arith)) v (both-words (getD one j 0) (getD other j 0) (j * 64) v (marked-word one j v refl a) (marked-word other j v refl b)))
-          (λ s. from-past one 4 (omega (arith, l .ones)) v (word-from 4 (marked one) v (omega arith) a))
+          (λ s. from-past one rowWords (omega (arith, l .ones)) v (word-from rowWords (marked one) v (omega arith) a))

@@ -9,8 +9,7 @@ use native.Mathlib.Nat.{pos-of-ne-zero}
 use lib.Bits.{bitAnd, and-le-r}
 use lib.Count.{trailingZeros}
 use lib.Dec.{T, leb, ltb, eqb, eqb-refl, leb→le, le→leb, ltb→lt, lt→ltb, eqb→eq}
-use Rattle.rows.specs.Rows.{bit}
-use Rattle.rows.specs.Rows.{inWord}
+use Rattle.rows.specs.Rows.{bit, inWord}
 use Rattle.lists.proofs.Tests.{and-T, T-and, eq-T}
 use Rattle.rows.proofs.Digits.{bit-none, digit-and}
 use Rattle.rows.proofs.Lowest.{Low, low, low-small}

@@ -2,39 +2,44 @@
 ghost use mathlib.Core.Path.{_≡_};
 ghost use Prim.Native.Nat.{_<_};
 ghost use lib.ListN.{length};
-ghost use Rattle.rows.specs.Rows.{marked, With, Linked, Differ, Minus, NoneMarked, Meet};
+ghost use Rattle.rows.specs.Rows.{marked, With, Linked, Differ, Minus, NoneMarked, Meet, locationsMost, marksMost, rowWords};
 
-// Locations are 0, the origin, and the slots 1 to 240.
-pub const LOCATIONS: usize = 241;
-// A row marks up to 256 locations, 64 to a word.
+// The slots that rows have a place for.
+pub const SLOTS: usize = 240;
+// Locations are 0, the origin, and the slots from 1 on.
+pub const LOCATIONS: usize = SLOTS + 1;
+// The words of a row, with 64 marks each.
 pub const WORDS: usize = 4;
 
 // Whether v is marked.
-pub fn has(row: [u64; WORDS], v: usize) -> bool
-    requires { ⌜ v < 256 ⌝ }
-    ensures { λ r. ⌜ r ≡ marked row v ⌝ }
+pub fn has(row: &[u64; WORDS], v: usize) -> bool
+    requires { ⌜ v < marksMost ⌝ }
+    ensures { λ r. ⌜ r ≡ marked (now (row .entry)) v ⌝ }
 {
     (row[v / 64] >> (v % 64)) & 1 == 1
 }
 
-// The row with v marked too.
-pub fn with(row: [u64; WORDS], v: usize) -> [u64; WORDS]
-    requires { ⌜ v < 256 ⌝ }
-    ensures { λ r. ⌜ With row v r ⌝ }
+// Tells the prover that a row has so many words, which it knows of an array by value and not of one behind a reference. It does nothing.
+fn four_words(row: [u64; WORDS])
+    ensures { λ _. ⌜ length row ≡ rowWords ⌝ }
+{}
+
+// The row marks v too.
+pub fn add(row: &mut [u64; WORDS], v: usize)
+    requires { ⌜ v < marksMost ⌝ }
+    ensures { λ _. ⌜ With (now (row .entry)) v (now (row .exit)) ⌝ }
 {
-    let mut out = row;
+    four_words(*row);
     let w = row[v / 64];
-    out[v / 64] = w | (1 << (v % 64));
-    out
+    row[v / 64] = w | (1 << (v % 64));
 }
 
 // Row a gets the mark b: a link from a to b. A second mark of the same link changes nothing.
 pub fn mark(rows: &mut [[u64; WORDS]; LOCATIONS], a: usize, b: usize)
-    requires { ⌜ (length (now rows) ≡ 241) × (a < 241) × (b < 256) ⌝ }
+    requires { ⌜ (length (now rows) ≡ locationsMost) × (a < locationsMost) × (b < marksMost) ⌝ }
     ensures { λ _. ⌜ Linked (now (rows .entry)) a b (now (rows .exit)) ⌝ }
 {
-    let row = rows[a];
-    rows[a] = with(row, b);
+    add(&mut rows[a], b);
 }
 
 // What one of two rows marks and the other does not.

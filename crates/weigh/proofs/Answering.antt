@@ -5,14 +5,14 @@ use mathlib.Core.List.{List}
 use Prim.Native.Nat.{ℕ, zero, suc, _≤_, _<_}
 use native.Mathlib.Omega.{arith}
 use borrow.Author.Tests.{le-leb, lt-leb}
-use Rattle.lists.specs.Lists.{on}
+use Rattle.lists.specs.Lists.{on, told}
 use Rattle.lists.proofs.Faults.{stop-at, skip-at, end-at}
 use Rattle.picture.specs.Picture.{pictureOf}
 use Rattle.picture.specs.Faults.{pictureFault}
 use Rattle.network.specs.Words.{blockCount}
 use Rattle.weigh.specs.declared.Weights.{Weights}
 use Rattle.weigh.specs.declared.Weighing.the-variants.{Weighed, Refused}
-use Rattle.weigh.specs.Weighing.{blockFault, weighFault, weightsOf, weighingOf, weighing}
+use Rattle.weigh.specs.Weighing.{blockFault, weighFault, weightsOf, weighingOf, weighing, weightValues, weighingNumbers}
 
 told-refused : (k : ℕ) (w : Weights) → k ≢ 0 → Refused k ≡ weighingOf k w
 unfolding weighingOf
@@ -40,3 +40,13 @@ module _ (bs : List ℕ) (b : ℕ) where
   weigh-told z l =
       ap (λ (j : ℕ). weighingOf j (weightsOf (pictureOf bs) b))
       (skip-at {x = 0} _ refl (sym z) (skip-at {x = 0} _ refl (rw (lt-leb (blockCount (pictureOf bs)) b l)) end-at))
+
+-- ---- the numbers of the answer
+
+pub weighing-numbers : (bs : List ℕ) (b : ℕ) → weighingNumbers (weighing bs b) ≡ told (weighFault bs b) (weightValues (weightsOf (pictureOf bs) b))
+unfolding weighingNumbers weighing weighingOf told
+weighing-numbers bs b = go (weighFault bs b)
+  where
+    go : (k : ℕ) → weighingNumbers (weighingOf k (weightsOf (pictureOf bs) b)) ≡ told k (weightValues (weightsOf (pictureOf bs) b))
+    go zero = refl
+    go (suc k) = refl

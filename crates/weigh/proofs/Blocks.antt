@@ -4,6 +4,7 @@ use mathlib.Core.List.{List}
 use Prim.Native.Nat.{ℕ, suc, _+_, _*_, _/_, _≤_, _<_}
 use native.Mathlib.Omega.{arith}
 use native.Mathlib.Nat.{suc-mul, le-trans, mul-le-mul-right, div-mul-le-self}
+use Rattle.rows.specs.Rows.{slotsMost}
 use Rattle.picture.specs.declared.Header.{Header}
 use Rattle.picture.specs.Picture.{Picture, pictureOf, pictureWith}
 use Rattle.picture.specs.Answers.{Read}
@@ -33,8 +34,7 @@ module _ (bs : List ℕ) (h : Header) (r : Read bs h) where
   read-blocks = sym (ap₂ (λ (x y : ℕ). x / y) read-slots read-block-size)
 
   -- a block's slots are among the first 240 locations
-  pub read-block : (b : ℕ) → b < blockCount (pictureOf bs) → (h .«block_size» ≤ 15) × (b * h .«block_size» + h .«block_size» ≤ 240)
+  pub read-block : (b : ℕ) → b < blockCount (pictureOf bs) → b * h .«block_size» + h .«block_size» ≤ slotsMost
   read-block b l =
-      let s = read-sizes bs h r in
       let f : b * h .«block_size» + h .«block_size» ≤ h .slots = block-fits (h .slots) (h .«block_size») b (rw read-blocks l) in
-      (omega (arith, s .size-most), omega (arith, s .slots-most))
+      omega (arith, read-sizes bs h r .slots-most)

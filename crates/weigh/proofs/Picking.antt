@@ -1,13 +1,15 @@
 -- The sum over the endpoints that rows pick, endpoint by endpoint. Assumes nothing.
-use mathlib.Core.Path.{_≡_, refl, sym, ap, ap₂, _∙_}
+use mathlib.Core.Path.{_≡_, refl, sym, ap, ap₂, _∙_, subst}
 use mathlib.Core.Bool.{Bool, true, false, not, _&&_, _||_}
 use mathlib.Core.List.{List, [], map}
 use Prim.Native.Nat.{ℕ, suc, _+_, _-_, _*_, _≤_}
 use native.Mathlib.Omega.{arith}
+use lib.Dec.{T, not-T}
 use lib.ListN.{getD}
 use Rattle.lists.specs.Lists.{range, on, sum, any}
 use Rattle.lists.proofs.Ends.{sum-more, any-more}
-use Rattle.rows.specs.Rows.{marked, Meet}
+use Rattle.lists.proofs.Tests.{and-T, T-and}
+use Rattle.rows.specs.Rows.{marked, Minus, Meet}
 use Rattle.weigh.specs.Sums.{Meets, LostRow, LostBetween, weightBetween, markBetween}
 
 -- two rows have a mark in common or they do not
@@ -16,6 +18,23 @@ meet-one row other true true a b = refl
 meet-one row other true false a b = let m = a .common tt in absurd (b .apart tt (m .0) (m .1) (m .2))
 meet-one row other false true a b = let m = b .common tt in absurd (a .apart tt (m .0) (m .1) (m .2))
 meet-one row other false false a b = refl
+
+-- `gone` marks what `before` does and `after` does not
+module _ (row before after gone : List ℕ) (m : Minus before after gone) where
+  -- a row that has a mark in common with what is gone has one with what was before
+  pub met-before : Meet row gone true → (f : Bool) → Meet row before f → true ≡ f
+  met-before k true a = refl
+  met-before k false a =
+      let c = k .common tt in
+      absurd (a .apart tt (c .0) (c .1) (and-T (marked before (c .0)) (not (marked after (c .0))) (subst T (m .marks (c .0)) (c .2)) .0))
+
+  -- and a row that has none there keeps what it has in common with what was before
+  pub met-after : Meet row gone false → (f g : Bool) → Meet row before f → Meet row after g → false ≡ (f && not g)
+  met-after k false g a b = refl
+  met-after k true true a b = refl
+  met-after k true false a b =
+      let c = a .common tt in
+      absurd (k .apart tt (c .0) (c .1) (subst T (sym (m .marks (c .0))) (T-and (marked before (c .0)) (not (marked after (c .0))) (c .2) (not-T (marked after (c .0)) (b .apart tt (c .0) (c .1))))))
 
 -- the endpoints from 1 up to c are looked at
 pub record Picking (table : List (List ℕ)) (weights guarded before after : List ℕ) (weight mark c : ℕ) : Type 0 where

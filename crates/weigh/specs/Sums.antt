@@ -2,10 +2,11 @@
 use mathlib.Core.Bool.{Bool, not, _&&_}
 use mathlib.Core.List.{List, [], map}
 use mathlib.Core.Path.{_≡_}
-use Prim.Native.Nat.{ℕ, _≤_}
+use Prim.Native.Nat.{ℕ, suc, _≤_}
 use lib.ListN.{length, getD}
 use Rattle.lists.specs.Lists.{range, on, sum, any}
 use Rattle.rows.specs.Rows.{marked, Meet}
+use Rattle.picture.specs.Layout.{endpointsMax}
 
 -- a row has a mark in common with one row and none with another
 pub record LostRow (row before after : List ℕ) (lost : Bool) : Type 0 where
@@ -29,5 +30,5 @@ pub record LostBetween (table : List (List ℕ)) (weights guarded : List ℕ) (d
 
 -- each weight is one of 16 bits
 pub record Small (weights : List ℕ) : Type 0 where
-  pub many : length weights ≡ 201
+  pub many : length weights ≡ suc endpointsMax
   pub weight : (c : ℕ) → getD weights c 0 ≤ 65535

@@ -31,3 +31,11 @@ weighingOf (suc k) w = Refused (suc k)
 
 unfoldable pub weighing : List ℕ → ℕ → Weighing
 weighing bs b = weighingOf (weighFault bs b) (weightsOf (pictureOf bs) b)
+
+-- 01's number and values for each case
+unfoldable pub weightValues : Weights → List ℕ
+weightValues w = w .served ∷ w .loss ∷ w .mark ∷ []
+
+unfoldable pub weighingNumbers : Weighing → List ℕ
+weighingNumbers (Weighed w) = 0 ∷ weightValues w
+weighingNumbers (Refused k) = k ∷ []

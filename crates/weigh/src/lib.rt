@@ -3,10 +3,11 @@ ghost use mathlib.Core.Path.{_≡_};
 ghost use mathlib.Core.Bool.{_&&_};
 ghost use mathlib.Core.List.{List};
 ghost use Prim.Native.Nat.{ℕ, _≤_, _<_};
-ghost use lib.ListN.{length, getD};
-ghost use Rattle.rows.specs.Rows.{marked};
+ghost use lib.ListN.{length};
+ghost use Rattle.rows.specs.Rows.{marked, Minus, locationsMost, marksMost};
 ghost use Rattle.picture.specs.Picture.{pictureOf};
 ghost use Rattle.picture.specs.Answers.{Read};
+ghost use Rattle.picture.specs.Layout.{endpointsMax};
 ghost use Rattle.network.specs.Words.{blockCount};
 ghost use Rattle.weigh.specs.Sums.{Small, LostRow, LostBetween};
 ghost use Rattle.weigh.specs.Weighing.{weightsOf, weighing};
@@ -15,6 +16,9 @@ use picture::Header;
 use picture::Reading;
 use rows::LOCATIONS;
 use rows::WORDS;
+
+// The number of a block that is not there.
+pub const NO_BLOCK: u8 = 8;
 
 // What weighing gives.
 pub struct Weights {
@@ -34,20 +38,21 @@ pub struct Lost {
     pub mark: u8,
 }
 
-// Whether a location of `before` serves an endpoint, whose serving locations are the row's, and none of `after` does.
-fn is_lost(row: [u64; WORDS], before: [u64; WORDS], after: [u64; WORDS]) -> bool
-    ensures { λ r. ⌜ LostRow row before after r ⌝ }
+// Whether an endpoint is lost, which the locations of the row serve: one that is gone served it, and none that is left (`after`) does. Most
+// endpoints are served by nothing that is gone, so the first look is the only one.
+fn is_lost(row: [u64; WORDS], gone: [u64; WORDS], after: [u64; WORDS]) -> bool
+    ensures { λ r. ⌜ ((before : List ℕ) → Minus before after gone → LostRow row before after r) ⌝ }
 {
-    if rows::meet(row, before) {
+    if rows::meet(row, gone) {
         return !rows::meet(row, after);
     }
     false
 }
 
 // Whether an endpoint is lost and protected.
-fn is_lost_protected(lost: bool, protected: [u64; WORDS], c: usize) -> bool
-    requires { ⌜ c < 256 ⌝ }
-    ensures { λ r. ⌜ r ≡ (marked protected c && lost) ⌝ }
+fn is_lost_protected(lost: bool, protected: &[u64; WORDS], c: usize) -> bool
+    requires { ⌜ c < marksMost ⌝ }
+    ensures { λ r. ⌜ r ≡ (marked (now (protected .entry)) c && lost) ⌝ }
 {
     if lost {
         return rows::has(protected, c);
@@ -64,19 +69,20 @@ pub fn lost_between(
     before: [u64; WORDS],
     after: [u64; WORDS],
 ) -> Lost
-    requires { ⌜ Small (now weights) × (length (now services) ≡ 241) × (d ≤ 200) ⌝ }
+    requires { ⌜ Small (now weights) × (length (now services) ≡ locationsMost) × (d ≤ endpointsMax) ⌝ }
     ensures { λ r. ⌜ LostBetween (now (services .entry)) (now (weights .entry)) protected d before after (r .weight) (r .mark) ⌝ }
 {
+    let gone = rows::minus(before, after);
     let mut weight: u32 = 0;
     let mut mark: u8 = 0;
     let mut c: usize = 1;
     while c <= d {
         let row = services[c];
-        let lost = is_lost(row, before, after);
+        let lost = is_lost(row, gone, after);
         if lost {
             weight += weights[c];
         }
-        if is_lost_protected(lost, protected, c) {
+        if is_lost_protected(lost, &protected, c) {
             mark = 1;
         }
         c += 1;
@@ -121,7 +127,7 @@ pub fn weigh(s: &[u8], b: u32) -> Weighing
         Reading::Refused(number) => Weighing::Refused(number),
         Reading::Accepted(h) => {
             if h.slots / h.block_size <= b as usize {
-                return Weighing::Refused(8);
+                return Weighing::Refused(NO_BLOCK);
             }
             Weighing::Weighed(weigh_block(s, h, b as usize))
         }

@@ -12,7 +12,7 @@ use Rattle.picture.proofs.Facts.{read-limited}
 use Rattle.network.specs.Words.{slotCount, blockCount}
 use Rattle.weigh.proofs.Blocks.{read-slots}
 use Rattle.acts.specs.Acts.{recoverableNear}
-use Rattle.acts.proofs.Scanning.{none-begun, none-more, some-found}
+use Rattle.lists.proofs.Scans.{none-begun, none-more, some-found}
 use Rattle.acts.proofs.adds_near.Statement.{statement}
 use Rattle.acts.proofs.adds_near.Tie as tie
 

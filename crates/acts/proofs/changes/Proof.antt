@@ -14,7 +14,7 @@ use Rattle.picture.specs.Answers.{Read}
 use Rattle.picture.proofs.Facts.{read-limited}
 use Rattle.acts.specs.declared.Act.{Act}
 use Rattle.acts.specs.Acts.{after}
-use Rattle.acts.proofs.Scanning.{none-begun, none-more, some-found}
+use Rattle.lists.proofs.Scans.{none-begun, none-more, some-found}
 use Rattle.acts.proofs.Headers.{Within, read-within, read-state, changed, read-changes}
 use Rattle.acts.proofs.changes.Statement.{statement}
 use Rattle.acts.proofs.changes.Tie as tie

@@ -15,7 +15,7 @@ use Rattle.network.specs.Words.{slotCount, blockCount}
 use Rattle.network.specs.Rows.{isNearHeld}
 use Rattle.weigh.proofs.Blocks.{read-slots}
 use Rattle.acts.specs.Acts.{recoverableNear, nearAfter}
-use Rattle.acts.proofs.Scanning.{count-begun, count-hit, count-miss, count-le}
+use Rattle.lists.proofs.Scans.{count-begun, count-hit, count-miss, count-le}
 use Rattle.acts.proofs.near_after.Statement.{statement}
 use Rattle.acts.proofs.near_after.Tie as tie
 

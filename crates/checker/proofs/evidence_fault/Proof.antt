@@ -57,7 +57,7 @@ div-form-of c = omega (arith, read-sizes _ _ (c .before .before .before .before 
 form-of-requires : tie.Need-form-of-requires
 form-of-requires c κs =
     let z = read-sizes _ _ (c .before .before .before .before .before .pre) in
-    (z .slots-most, omega (arith, z .size-most), z .blocks-most, div-mul-le-self _ _)
+    (z .slots-most, z .blocks-most, div-mul-le-self _ _)
 
 returns : tie.Need-returns
 returns c = check-form _ _ (c .before .before .before .before .before .before .before .pre .accepted) (sym (form-same (c .before)) ∙ not-true _ (c .if1 .taken))

@@ -1,5 +1,5 @@
 -- `show` hands back the part. Assumes nothing.
-use mathlib.Core.Path.{_≡_, ap₂}
+use mathlib.Core.Path.{_≡_, ap, ap₂}
 use Prim.Native.Nat.{ℕ, _+_, _-_, _≤_}
 use native.Mathlib.Omega.{arith}
 use lib.ListN.{length, take, drop}
@@ -34,7 +34,7 @@ returns c =
     let r = c .before .before .shown-part in
     let a = c .before .before .before .before .before .args in
     let e : r .result .start + r .result .size - r .result .start ≡ shownPart (a .s .now) (a .ev .now) .size = omega (arith, r .ensures .1) in
-    ap₂ (λ (k i : ℕ). take k (drop i (a .ev .now))) e (r .ensures .0)
+    (ap₂ (λ (k i : ℕ). take k (drop i (a .ev .now))) e (r .ensures .0), ap (λ (k : ℕ). (a .ev .ptr .0, k)) (omega (arith, r .ensures .0)))
 
 pub show-spec : {M : Type 1} → statement M
 show-spec =

@@ -48,7 +48,7 @@ count-candidates-requires : tie.Need-count-candidates-requires
 count-candidates-requires c κs =
     let k = c .before .before .before in
     let s = read-sizes _ _ (accepted k) in
-    (omega (arith, s .size-most), omega (arith, s .slots-most, div-mul-le-self (k .h .given .0 .0 .slots) (k .h .given .0 .0 .«block_size»)))
+    omega (arith, s .slots-most, div-mul-le-self (k .h .given .0 .0 .slots) (k .h .given .0 .0 .«block_size»))
 
 evidence-bytes-requires : tie.Need-evidence-bytes-requires
 evidence-bytes-requires c κs =

@@ -31,7 +31,7 @@ loop-holds : tie.Need-loop-holds Inv-loop μ-loop
 loop-holds c = (counting-begun _ _, omega arith)
 
 block-row-requires : tie.Need-block-row-requires Inv-loop μ-loop
-block-row-requires c κs = (c .before .before .pre .0, block-within _ _ _ (c .loop-test .taken) (c .before .before .pre .1))
+block-row-requires c κs = block-within _ _ _ (c .loop-test .taken) (c .before .before .pre)
 
 meet-requires : tie.Need-meet-requires Inv-loop μ-loop
 meet-requires c κs = search needs

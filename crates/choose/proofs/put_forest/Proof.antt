@@ -4,9 +4,10 @@ use mathlib.Core.List.{List}
 use Prim.Native.Nat.{ℕ, _+_, _-_, _*_, _≤_, _<_}
 use native.Mathlib.Omega.{arith}
 use lib.ListN.{length, length-set}
+use Rattle.packing.specs.Holding.{Put}
 use Rattle.picture.specs.Layout.{edition1}
 use Rattle.evidence.specs.Canonical.{forestFields}
-use Rattle.choose.specs.Writing.{Put, nodesIn}
+use Rattle.choose.specs.Writing.{nodesIn}
 use Rattle.choose.proofs.Nodes.{nodes-begun, nodes-next}
 use borrow.Author.Needs.{needs}
 use Rattle.choose.proofs.put_forest.Statement.{statement}

@@ -4,14 +4,14 @@ use borrow.Author.Needs.{needs}
 use Rattle.choose.proofs.put_section.Statement.{statement}
 use Rattle.choose.proofs.put_section.Tie as tie
 
-mul-block : tie.Need-mul-block
-mul-block c = search needs
+mul-block-at : tie.Need-mul-block-at
+mul-block-at c = search needs
 
-add-loss : tie.Need-add-loss
-add-loss c = search needs
+add-loss-at : tie.Need-add-loss-at
+add-loss-at c = search needs
 
-add-mark : tie.Need-add-mark
-add-mark c = search needs
+add-mark-at : tie.Need-add-mark-at
+add-mark-at c = search needs
 
 put-field-requires : tie.Need-put-field-requires
 put-field-requires c κs = search needs
@@ -48,9 +48,9 @@ pub put-section-spec : {M : Type 1} → statement M
 put-section-spec =
     tie.close
     (tie.spec
-    mul-block
-    add-loss
-    add-mark
+    mul-block-at
+    add-loss-at
+    add-mark-at
     put-field-requires
     cast-put-field
     put-field-requires-2

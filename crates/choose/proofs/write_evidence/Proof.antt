@@ -3,6 +3,7 @@ use mathlib.Core.Path.{_≡_}
 use Prim.Native.Nat.{_+_, _*_}
 use native.Mathlib.Omega.{arith}
 use lib.ListN.{length}
+use Rattle.rows.specs.Rows.{locationsMost}
 use Rattle.picture.specs.Picture.{pictureOf}
 use Rattle.picture.proofs.Facts.{read-limited}
 use Rattle.network.specs.Tests.{servedWeight}
@@ -66,8 +67,8 @@ put-forest-requires c κs =
     let r = start w .pre .read in
     let e = length-for r in
     let s = read-limited _ _ r .slots in
-    let p : length (w .walk .result .parent) ≡ 241 = search needs in
-    let d : length (w .walk .result .depth) ≡ 241 = search needs in
+    let p : length (w .walk .result .parent) ≡ locationsMost = search needs in
+    let d : length (w .walk .result .depth) ≡ locationsMost = search needs in
     (omega (arith, start w .pre .room), omega arith, omega arith)
 
 mul-at : tie.Need-mul-at

@@ -1,6 +1,7 @@
 -- `level` sweeps the rows of a frontier. The invariant: the rows of the words passed are swept. Assumes nothing.
 use Prim.Native.Nat.{_-_}
 use native.Mathlib.Omega.{arith}
+use Rattle.rows.specs.Rows.{rowWords}
 use borrow.Author.Needs.{needs}
 use Rattle.graph.proofs.Frontiers.{RowSweeping, row-locations, row-sweep-begun, row-sweep-next, row-sweep-ended}
 use Rattle.graph.proofs.level.Statement.{statement}
@@ -10,7 +11,7 @@ abbrev Inv-loop : tie.InvT-loop
 Inv-loop links fresh₀ parent₀ depth₀ d frontier i₀ fresh parent depth i = RowSweeping links frontier d i fresh₀ parent₀ depth₀ fresh parent depth
 
 abbrev μ-loop : tie.MeasureT-loop
-μ-loop links fresh₀ parent₀ depth₀ d frontier i₀ fresh parent depth i = 4 - i
+μ-loop links fresh₀ parent₀ depth₀ d frontier i₀ fresh parent depth i = rowWords - i
 
 loop-holds : tie.Need-loop-holds Inv-loop μ-loop
 loop-holds c = row-sweep-begun (search needs) (c .pre .1)

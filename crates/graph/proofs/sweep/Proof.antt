@@ -2,6 +2,7 @@
 use mathlib.Core.Logic.{⊎-elim}
 use Prim.Native.Nat.{_-_}
 use native.Mathlib.Omega.{arith}
+use Rattle.rows.specs.Rows.{rowWords}
 use borrow.Author.Needs.{needs}
 use Rattle.graph.proofs.Takes.{Sweeping, common-locations, begun, hit, miss, ended}
 use Rattle.graph.proofs.sweep.Statement.{statement}
@@ -11,7 +12,7 @@ abbrev Inv-loop : tie.InvT-loop
 Inv-loop fresh₀ parent₀ depth₀ u d row k₀ fresh parent depth k = Sweeping row u d k fresh₀ parent₀ depth₀ fresh parent depth
 
 abbrev μ-loop : tie.MeasureT-loop
-μ-loop fresh₀ parent₀ depth₀ u d row k₀ fresh parent depth k = 4 - k
+μ-loop fresh₀ parent₀ depth₀ u d row k₀ fresh parent depth k = rowWords - k
 
 loop-holds : tie.Need-loop-holds Inv-loop μ-loop
 loop-holds c = begun (search needs) (c .pre)

@@ -4,6 +4,7 @@ use native.Mathlib.Omega.{arith}
 use mathlib.Core.Bool.{_&&_}
 use Prim.Native.Nat.{ℕ, _+_, _-_, _*_}
 use lib.Dec.{leb}
+use Rattle.rows.specs.Rows.{rowWords}
 use Rattle.network.proofs.Making.{Marking, marking-begun, marking-next}
 use borrow.Author.Needs.{needs}
 use Rattle.network.proofs.block_row.Statement.{statement}
@@ -19,22 +20,22 @@ mul-start : tie.Need-mul-start Inv-loop μ-loop
 mul-start c = search needs
 
 loop-holds : tie.Need-loop-holds Inv-loop μ-loop
-loop-holds c = marking-begun _ _ 4
+loop-holds c = marking-begun _ _ rowWords
 
 add-k : tie.Need-add-k Inv-loop μ-loop
 add-k c = search needs
 
-add-with : tie.Need-add-with Inv-loop μ-loop
-add-with c = search needs
+add-add : tie.Need-add-add Inv-loop μ-loop
+add-add c = search needs
 
-with-requires : tie.Need-with-requires Inv-loop μ-loop
-with-requires c κs = search needs
+add-requires : tie.Need-add-requires Inv-loop μ-loop
+add-requires c κs = search needs
 
 loop-less : tie.Need-loop-less Inv-loop μ-loop
 loop-less c = search needs
 
 loop-again : tie.Need-loop-again Inv-loop μ-loop
-loop-again c = marking-next _ _ _ _ (c .before .before .loop .k) (omega arith) (c .before .before .loop .inv) (c .with .ensures)
+loop-again c = marking-next _ _ _ _ (c .before .before .before .loop .k) (omega arith) (c .before .before .before .loop .inv) (c .add .ensures)
 
 returns : tie.Need-returns Inv-loop μ-loop
 returns c =
@@ -51,8 +52,8 @@ block-row-spec =
     mul-start
     loop-holds
     add-k
-    add-with
-    with-requires
+    add-add
+    add-requires
     loop-less
     loop-again
     returns)

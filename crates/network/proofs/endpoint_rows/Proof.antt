@@ -4,10 +4,12 @@ use native.Mathlib.Omega.{arith}
 use mathlib.Core.List.{List}
 use Prim.Native.Nat.{ℕ, _+_, _-_, _≤_}
 use mathlib.Core.Logic.{⊎-elim}
+use Rattle.rows.specs.Rows.{rowWords}
 use Rattle.picture.specs.declared.Header.{Header}
 use Rattle.picture.specs.Answers.{Read}
 use Rattle.picture.specs.Picture.{Picture, pictureOf, endpointOf}
 use Rattle.picture.proofs.Facts.{read-picture, read-limited, read-endpoints-length}
+use Rattle.picture.specs.Layout.{endpointsMax}
 use Rattle.network.specs.Words.{weightOf}
 use Rattle.network.proofs.Weights.{weight-small}
 use Rattle.network.proofs.Making.{Scanned, scanned-begun, scanned-hit, scanned-miss}
@@ -29,7 +31,7 @@ Inv-loop s h d weights₀ protected₀ c₀ weights protected c = Loop s h weigh
 abbrev μ-loop : tie.MeasureT-loop
 μ-loop s h d weights₀ protected₀ c₀ weights protected c = h .endpoints + 1 - c
 
-few : (c : tie.At-loop Inv-loop μ-loop) → c .before .before .args .h .endpoints ≤ 200
+few : (c : tie.At-loop Inv-loop μ-loop) → c .before .before .args .h .endpoints ≤ endpointsMax
 few c = read-limited _ _ (c .loop .inv .read) .counts .endpoints-most
 
 -- what was read is the picture's
@@ -46,13 +48,13 @@ protected-next : (c : tie.Joined1 Inv-loop μ-loop) → Scanned (λ u. endpointO
 protected-next c =
     let l = c .before .before .before .before .loop in
     ⊎-elim
-    (λ w. rw (w .2) (scanned-hit _ _ _ (l .c) (l .inv .some) (l .inv .protected) (protected (c .before) ∙ w .0 .taken) (w .1 .ensures)))
+    (λ w. rw (w .3) (scanned-hit _ _ _ (l .c) (l .inv .some) (l .inv .protected) (protected (c .before) ∙ w .0 .taken) (w .2 .ensures)))
     (λ w. rw (w .1) (scanned-miss _ _ (l .c) (l .inv .some) (l .inv .protected) (protected (c .before) ∙ w .0 .left)))
     (c .if1 .came)
 
 loop-holds : tie.Need-loop-holds Inv-loop μ-loop
 loop-holds c =
-    record { some = omega arith; within = omega arith; read = c .before .pre; weighed = weighing-begun _; protected = scanned-begun _ 4 }
+    record { some = omega arith; within = omega arith; read = c .before .pre; weighed = weighing-begun _; protected = scanned-begun _ rowWords }
 
 endpoint-weight-requires : tie.Need-endpoint-weight-requires Inv-loop μ-loop
 endpoint-weight-requires c κs = (read-limited _ _ (c .before .loop .inv .read), c .before .loop .inv .some, omega arith)
@@ -69,8 +71,8 @@ array-write-weights c = omega (arith, few (c .before .before))
 endpoint-protected-requires : tie.Need-endpoint-protected-requires Inv-loop μ-loop
 endpoint-protected-requires c κs = (read-limited _ _ (c .before .before .loop .inv .read), c .before .before .loop .inv .some, omega arith)
 
-with-requires : tie.Need-with-requires Inv-loop μ-loop
-with-requires c κs = omega (arith, few (c .before .before .before .before))
+add-requires : tie.Need-add-requires Inv-loop μ-loop
+add-requires c κs = omega (arith, few (c .before .before .before .before .before))
 
 add-c : tie.Need-add-c Inv-loop μ-loop
 add-c c = omega (arith, few (c .before .before .before .before))
@@ -106,7 +108,7 @@ endpoint-rows-spec =
     mul-weights
     array-write-weights
     endpoint-protected-requires
-    with-requires
+    add-requires
     add-c
     loop-less
     loop-again

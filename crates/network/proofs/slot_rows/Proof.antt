@@ -4,6 +4,7 @@ use native.Mathlib.Omega.{arith}
 use mathlib.Core.List.{List}
 use Prim.Native.Nat.{ℕ, _+_, _-_, _≤_}
 use mathlib.Core.Logic.{⊎-elim}
+use Rattle.rows.specs.Rows.{slotsMost, rowWords}
 use Rattle.picture.specs.declared.Header.{Header}
 use Rattle.picture.specs.Answers.{Read}
 use Rattle.picture.specs.Picture.{pictureOf}
@@ -14,11 +15,6 @@ use Rattle.network.proofs.Slots.{slots-looked}
 use Rattle.network.proofs.Making.{Scanned, scanned-begun, scanned-hit, scanned-miss}
 use Rattle.network.proofs.slot_rows.Statement.{statement}
 use Rattle.network.proofs.slot_rows.Tie as tie
-use Rattle.network.proofs.slot_rows.Reads as reads
-use Rattle.network.proofs.slot_rows.Lts as lts
-use Rattle.network.proofs.is_held.Reads as is-held-reads
-use Rattle.network.proofs.is_near_held.Reads as is-near-held-reads
-use Rattle.rows.proofs.with.Reads as with-reads
 
 record Loop (s : List ℕ) (h : Header) (holding nearby : List ℕ) (v : ℕ) : Type 0 where
   pub some : 1 ≤ v
@@ -33,7 +29,7 @@ Inv-loop s h n held₀ near₀ v₀ held near v = Loop s h held near v
 abbrev μ-loop : tie.MeasureT-loop
 μ-loop s h n held₀ near₀ v₀ held near v = h .slots + 1 - v
 
-small : (c : tie.At-loop Inv-loop μ-loop) → c .before .before .args .h .slots ≤ 240
+small : (c : tie.At-loop Inv-loop μ-loop) → c .before .before .args .h .slots ≤ slotsMost
 small c = read-limited _ _ (c .loop .inv .read) .slots
 
 -- the slot at hand is looked at, and marked if it is held
@@ -41,7 +37,7 @@ held-next : (c : tie.Joined1 Inv-loop μ-loop) → Scanned (isHeld (pictureOf (c
 held-next c =
     let l = c .before .before .before .loop in
     ⊎-elim
-    (λ w. rw (w .2) (scanned-hit _ _ _ (l .v) (l .inv .some) (l .inv .held) (sym (c .before .is-held .ensures) ∙ w .0 .taken) (w .1 .ensures)))
+    (λ w. rw (w .3) (scanned-hit _ _ _ (l .v) (l .inv .some) (l .inv .held) (sym (c .before .is-held .ensures) ∙ w .0 .taken) (w .2 .ensures)))
     (λ w. rw (w .1) (scanned-miss _ _ (l .v) (l .inv .some) (l .inv .held) (sym (c .before .is-held .ensures) ∙ w .0 .left)))
     (c .if1 .came)
 
@@ -49,26 +45,26 @@ near-next : (c : tie.Joined2 Inv-loop μ-loop) → Scanned (isNearHeld (pictureO
 near-next c =
     let l = c .before .before .before .before .before .loop in
     ⊎-elim
-    (λ w. rw (w .2) (scanned-hit _ _ _ (l .v) (l .inv .some) (l .inv .near) (sym (c .before .is-near-held .ensures) ∙ w .0 .taken) (w .1 .ensures)))
+    (λ w. rw (w .3) (scanned-hit _ _ _ (l .v) (l .inv .some) (l .inv .near) (sym (c .before .is-near-held .ensures) ∙ w .0 .taken) (w .2 .ensures)))
     (λ w. rw (w .1) (scanned-miss _ _ (l .v) (l .inv .some) (l .inv .near) (sym (c .before .is-near-held .ensures) ∙ w .0 .left)))
     (c .if2 .came)
 
 loop-holds : tie.Need-loop-holds Inv-loop μ-loop
-loop-holds c = record { some = omega arith; within = omega arith; read = c .before .pre; held = scanned-begun _ 4; near = scanned-begun _ 4 }
+loop-holds c = record { some = omega arith; within = omega arith; read = c .before .pre; held = scanned-begun _ rowWords; near = scanned-begun _ rowWords }
 
 is-held-requires : tie.Need-is-held-requires Inv-loop μ-loop
 is-held-requires c κs = (c .before .loop .inv .read, c .before .loop .inv .some, omega arith)
 
-with-requires : tie.Need-with-requires Inv-loop μ-loop
-with-requires c κs = omega (arith, small (c .before .before .before))
+add-requires : tie.Need-add-requires Inv-loop μ-loop
+add-requires c κs = omega (arith, small (c .before .before .before .before))
 
 is-near-held-requires : tie.Need-is-near-held-requires Inv-loop μ-loop
 is-near-held-requires c κs =
     let l = c .before .before .before .loop in
     (l .inv .read, l .inv .some, omega arith)
 
-with-requires-2 : tie.Need-with-requires-2 Inv-loop μ-loop
-with-requires-2 c κs = omega (arith, small (c .before .before .before .before .before))
+add-requires-2 : tie.Need-add-requires-2 Inv-loop μ-loop
+add-requires-2 c κs = omega (arith, small (c .before .before .before .before .before .before))
 
 add-v : tie.Need-add-v Inv-loop μ-loop
 add-v c = omega (arith, small (c .before .before .before .before .before))
@@ -94,9 +90,9 @@ slot-rows-spec =
     μ-loop
     loop-holds
     is-held-requires
-    with-requires
+    add-requires
     is-near-held-requires
-    with-requires-2
+    add-requires-2
     add-v
     loop-less
     loop-again

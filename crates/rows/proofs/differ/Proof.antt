@@ -4,6 +4,7 @@ use mathlib.Core.Bool.{xor}
 use Prim.Native.Nat.{_-_}
 use native.Mathlib.Omega.{arith}
 use lib.Bits.{bitXor}
+use Rattle.rows.specs.Rows.{rowWords}
 use Rattle.rows.proofs.Marks.{Made, made-next, made-marks}
 use Rattle.rows.proofs.Digits.{digit-xor}
 use borrow.Author.Needs.{needs}
@@ -11,10 +12,10 @@ use Rattle.rows.proofs.differ.Statement.{statement}
 use Rattle.rows.proofs.differ.Tie as tie
 
 abbrev Inv-loop : tie.InvT-loop
-Inv-loop before after row₀ i₀ row i = Made bitXor 4 before after row i
+Inv-loop before after row₀ i₀ row i = Made bitXor rowWords before after row i
 
 abbrev μ-loop : tie.MeasureT-loop
-μ-loop before after row₀ i₀ row i = 4 - i
+μ-loop before after row₀ i₀ row i = rowWords - i
 
 loop-holds : tie.Need-loop-holds Inv-loop μ-loop
 loop-holds c = record { within = search needs; ones = search needs; others = search needs; rows = search needs; words = search needs }
@@ -44,13 +45,13 @@ loop-less : tie.Need-loop-less Inv-loop μ-loop
 loop-less c = search needs
 
 loop-again : tie.Need-loop-again Inv-loop μ-loop
-loop-again c = made-next bitXor 4 _ _ _ (c .before .loop .i) (c .before .loop .inv) (omega arith)
+loop-again c = made-next bitXor rowWords _ _ _ (c .before .loop .i) (c .before .loop .inv) (omega arith)
 
 returns : tie.Need-returns Inv-loop μ-loop
 returns c =
     let l = c .before .loop in
-    let e : l .i ≡ 4 = omega arith in
-    record { marks = made-marks bitXor xor digit-xor refl 4 _ _ _ (rw e at (l .inv)) }
+    let e : l .i ≡ rowWords = omega arith in
+    record { marks = made-marks bitXor xor digit-xor refl rowWords _ _ _ (rw e at (l .inv)) }
 
 pub differ-spec : {M : Type 1} → statement M
 differ-spec =

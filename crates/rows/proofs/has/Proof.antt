@@ -12,15 +12,17 @@ use Rattle.rows.proofs.has.Tie as tie
 mul-result : tie.Need-mul-result
 mul-result c = search needs
 
-array-read-result : tie.Need-array-read-result
-array-read-result c = search needs
+element-copy-out-result : tie.Need-element-copy-out-result
+element-copy-out-result c = search needs
 
 shr-result : tie.Need-shr-result
 shr-result c = search needs
 
 returns : tie.Need-returns
 unfolding bit marked
-returns c = ap (λ (x : ℕ). eqb x 1) (and-mask (getD (c .args .t1) (c .args .v / 64) 0 / 2 ^ (c .args .v % 64)) 1)
+returns c =
+    let a = c .before .args in
+    ap (λ (x : ℕ). eqb x 1) (and-mask (getD (a .row .now) (a .v / 64) 0 / 2 ^ (a .v % 64)) 1)
 
 pub has-spec : {M : Type 1} → statement M
-has-spec = tie.close (tie.spec mul-result array-read-result shr-result returns)
+has-spec = tie.close (tie.spec mul-result element-copy-out-result shr-result returns)

@@ -5,25 +5,17 @@ use borrow.Author.Needs.{needs}
 use Rattle.rows.proofs.mark.Statement.{statement}
 use Rattle.rows.proofs.mark.Tie as tie
 
-mul-row : tie.Need-mul-row
-mul-row c = search needs
+mul-add : tie.Need-mul-add
+mul-add c = search needs
 
-element-copy-out-row : tie.Need-element-copy-out-row
-element-copy-out-row c = search needs
+index-1-add : tie.Need-index-1-add
+index-1-add c = search needs
 
-with-requires : tie.Need-with-requires
-with-requires c κs = search needs
-
-mul-t5 : tie.Need-mul-t5
-mul-t5 c = search needs
-
-element-set-from-rows : tie.Need-element-set-from-rows
-element-set-from-rows c = search needs
+add-requires : tie.Need-add-requires
+add-requires c κs = search needs
 
 returns : tie.Need-returns
-returns c = with-link _ _ _ _ (omega arith) (c .with .ensures)
+returns c = with-link _ _ _ _ (omega arith) (c .add .ensures)
 
 pub mark-spec : {M : Type 1} → statement M
-mark-spec =
-    tie.close
-    (tie.spec mul-row element-copy-out-row with-requires mul-t5 element-set-from-rows returns)
+mark-spec = tie.close (tie.spec mul-add index-1-add add-requires returns)

@@ -5,6 +5,7 @@ use Prim.Native.Nat.{_-_}
 use mir.Syntax.{w64}
 use mir.Val.{Fits}
 use lib.ListN.{getD}
+use Rattle.rows.specs.Rows.{rowWords}
 use Rattle.rows.proofs.Marks.{Looked, looked-next, looked-all}
 use borrow.Author.Needs.{needs}
 use Rattle.rows.proofs.meet.Statement.{statement}
@@ -14,7 +15,7 @@ abbrev Inv-loop : tie.InvT-loop
 Inv-loop row other common₀ i₀ common i = Looked row other common i
 
 abbrev μ-loop : tie.MeasureT-loop
-μ-loop row other common₀ i₀ common i = 4 - i
+μ-loop row other common₀ i₀ common i = rowWords - i
 
 loop-holds : tie.Need-loop-holds Inv-loop μ-loop
 loop-holds c =

@@ -3,16 +3,17 @@ use mathlib.Core.Path.{_≡_, refl}
 use mathlib.Core.Bool.{not, _&&_}
 use Prim.Native.Nat.{_-_}
 use native.Mathlib.Omega.{arith}
+use Rattle.rows.specs.Rows.{rowWords}
 use Rattle.rows.proofs.Marks.{lessWord, digit-less, Made, made-next, made-marks}
 use borrow.Author.Needs.{needs}
 use Rattle.rows.proofs.minus.Statement.{statement}
 use Rattle.rows.proofs.minus.Tie as tie
 
 abbrev Inv-loop : tie.InvT-loop
-Inv-loop row less left₀ i₀ left i = Made lessWord 4 row less left i
+Inv-loop row less left₀ i₀ left i = Made lessWord rowWords row less left i
 
 abbrev μ-loop : tie.MeasureT-loop
-μ-loop row less left₀ i₀ left i = 4 - i
+μ-loop row less left₀ i₀ left i = rowWords - i
 
 loop-holds : tie.Need-loop-holds Inv-loop μ-loop
 loop-holds c = record { within = search needs; ones = search needs; others = search needs; rows = search needs; words = search needs }
@@ -49,14 +50,14 @@ loop-less c = search needs
 
 loop-again : tie.Need-loop-again Inv-loop μ-loop
 unfolding lessWord
-loop-again c = made-next lessWord 4 _ _ _ (c .before .loop .i) (c .before .loop .inv) (omega arith)
+loop-again c = made-next lessWord rowWords _ _ _ (c .before .loop .i) (c .before .loop .inv) (omega arith)
 
 returns : tie.Need-returns Inv-loop μ-loop
 unfolding lessWord
 returns c =
     let l = c .before .loop in
-    let e : l .i ≡ 4 = omega arith in
-    record { marks = made-marks lessWord (λ x y. x && not y) digit-less refl 4 _ _ _ (rw e at (l .inv)) }
+    let e : l .i ≡ rowWords = omega arith in
+    record { marks = made-marks lessWord (λ x y. x && not y) digit-less refl rowWords _ _ _ (rw e at (l .inv)) }
 
 pub minus-spec : {M : Type 1} → statement M
 minus-spec =

@@ -3,6 +3,7 @@ use mathlib.Core.List.{List}
 use mathlib.Core.Path.{_≡_}
 use Prim.Native.Nat.{ℕ, _-_, _≤_, _<_}
 use native.Mathlib.Omega.{arith}
+use Rattle.rows.specs.Rows.{rowWords}
 use borrow.Author.Count.{below-more}
 use borrow.Author.Needs.{needs}
 use lib.ListN.{length, getD}
@@ -13,15 +14,15 @@ use Rattle.rows.proofs.none_marked.Statement.{statement}
 use Rattle.rows.proofs.none_marked.Tie as tie
 
 record Passing (row : List ℕ) (i : ℕ) : Type 0 where
-  pub low : i ≤ 4
-  pub rows : length row ≡ 4
+  pub low : i ≤ rowWords
+  pub rows : length row ≡ rowWords
   pub zeros : (j : ℕ) → j < i → getD row j 0 ≡ 0
 
 abbrev Inv-loop : tie.InvT-loop
 Inv-loop row i₀ i = Passing row i
 
 abbrev μ-loop : tie.MeasureT-loop
-μ-loop row i₀ i = 4 - i
+μ-loop row i₀ i = rowWords - i
 
 loop-holds : tie.Need-loop-holds Inv-loop μ-loop
 loop-holds c = record { low = search needs; rows = search needs; zeros = search needs }
@@ -52,8 +53,8 @@ loop-again c =
 returns-2 : tie.Need-returns-2 Inv-loop μ-loop
 returns-2 c =
     let l = c .before .loop in
-    let e : l .i ≡ 4 = omega arith in
-    record { empty = λ _. none-marked _ 4 (omega (arith, l .inv .rows)) (rw e at (l .inv .zeros)); some = λ t. absurd t }
+    let e : l .i ≡ rowWords = omega arith in
+    record { empty = λ _. none-marked _ rowWords (omega (arith, l .inv .rows)) (rw e at (l .inv .zeros)); some = λ t. absurd t }
 
 pub none-marked-spec : {M : Type 1} → statement M
 none-marked-spec =

@@ -20,12 +20,12 @@ has-requires c κs = search needs
 returns : tie.Need-returns
 returns c =
     let a = c .before .before .args in
-    c .has .ensures ∙ sym (ap (λ (b : Bool). marked (a .protected) (a .c) && b) (c .before .if1 .taken) ∙ and-true (marked (a .protected) (a .c)))
+    c .has .ensures ∙ sym (ap (λ (b : Bool). marked (a .protected .now) (a .c) && b) (c .before .if1 .taken) ∙ and-true (marked (a .protected .now) (a .c)))
 
 returns-2 : tie.Need-returns-2
 returns-2 c =
     let a = c .before .args in
-    sym (ap (λ (b : Bool). marked (a .protected) (a .c) && b) (c .if1 .left) ∙ and-false (marked (a .protected) (a .c)))
+    sym (ap (λ (b : Bool). marked (a .protected .now) (a .c) && b) (c .if1 .left) ∙ and-false (marked (a .protected .now) (a .c)))
 
 pub is-lost-protected-spec : {M : Type 1} → statement M
 is-lost-protected-spec = tie.close (tie.spec has-requires returns returns-2)

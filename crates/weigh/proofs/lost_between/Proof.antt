@@ -8,33 +8,34 @@ use Prim.Native.Nat.{ℕ, _+_, _-_, _≤_}
 use native.Mathlib.Nat.{add-zero, zero-add}
 use lib.ListN.{length, getD}
 use Rattle.lists.specs.Lists.{on}
-use Rattle.rows.specs.Rows.{marked}
+use Rattle.rows.specs.Rows.{marked, Minus, locationsMost}
+use Rattle.picture.specs.Layout.{endpointsMax}
 use Rattle.weigh.specs.Sums.{Small}
 use Rattle.weigh.proofs.Picking.{Picking, picking-begun, picking-next, picking-ended}
 use borrow.Author.Needs.{needs}
 use Rattle.weigh.proofs.lost_between.Statement.{statement}
 use Rattle.weigh.proofs.lost_between.Tie as tie
 
-record Loop (services : List (List ℕ)) (weights protected : List ℕ) (d : ℕ) (before after : List ℕ) (weight mark c : ℕ) : Type 0 where
+record Loop (services : List (List ℕ)) (weights protected : List ℕ) (d : ℕ) (gone after : List ℕ) (weight mark c : ℕ) : Type 0 where
   pub within : c ≤ d + 1
-  pub few : d ≤ 200
-  pub many : length services ≡ 241
+  pub few : d ≤ endpointsMax
+  pub many : length services ≡ locationsMost
   pub small : Small weights
-  pub picking : Picking services weights protected before after weight mark c
+  pub picking : (before : List ℕ) → Minus before after gone → Picking services weights protected before after weight mark c
 
 abbrev Inv-loop : tie.InvT-loop
-Inv-loop services weights protected d before after weight₀ mark₀ c₀ weight mark c = Loop services weights protected d before after weight mark c
+Inv-loop services weights d after protected gone weight₀ mark₀ c₀ weight mark c = Loop services weights protected d gone after weight mark c
 
 abbrev μ-loop : tie.MeasureT-loop
-μ-loop services weights protected d before after weight₀ mark₀ c₀ weight mark c = d + 1 - c
+μ-loop services weights d after protected gone weight₀ mark₀ c₀ weight mark c = d + 1 - c
 
 -- a lost endpoint's weight is added
 weight-next : (c : tie.Joined1 Inv-loop μ-loop)
-    → c .if1 .weight ≡ c .before .before .before .before .loop .weight + on (c .before .is-lost .result) (getD (c .before .before .before .before .before .args .weights .now) (c .before .before .before .before .loop .c) 0)
+    → c .if1 .weight ≡ c .before .before .before .before .loop .weight + on (c .before .is-lost .result) (getD (c .before .before .before .before .before .before .args .weights .now) (c .before .before .before .before .loop .c) 0)
 unfolding on
 weight-next c =
     let l = c .before .before .before .before .loop in
-    let w = getD (c .before .before .before .before .before .args .weights .now) (l .c) 0 in
+    let w = getD (c .before .before .before .before .before .before .args .weights .now) (l .c) 0 in
     ⊎-elim
     (λ x. x .2 ∙ ap (λ (b : Bool). l .weight + on b w) (sym (x .0 .taken)))
     (λ x. x .1 ∙ sym (ap (λ (b : Bool). l .weight + on b w) (x .0 .left) ∙ add-zero (l .weight)))
@@ -42,20 +43,23 @@ weight-next c =
 
 -- a lost protected endpoint sets the mark
 mark-next : (c : tie.Joined2 Inv-loop μ-loop)
-    → on (marked (c .before .before .before .before .before .before .before .args .protected) (c .before .before .before .before .before .before .loop .c) && c .before .before .before .is-lost .result) 1
-    + on (not (marked (c .before .before .before .before .before .before .before .args .protected) (c .before .before .before .before .before .before .loop .c) && c .before .before .before .is-lost .result)) (c .before .before .before .before .before .before .loop .mark)
+    → on (marked (c .before .before .before .before .before .before .before .before .before .args .t3) (c .before .before .before .before .before .before .before .loop .c) && c .before .before .before .before .is-lost .result) 1
+    + on (not (marked (c .before .before .before .before .before .before .before .before .before .args .t3) (c .before .before .before .before .before .before .before .loop .c) && c .before .before .before .before .is-lost .result)) (c .before .before .before .before .before .before .before .loop .mark)
     ≡ c .if2 .mark
 unfolding on
 mark-next c =
-    let l = c .before .before .before .before .before .before .loop in
+    let l = c .before .before .before .before .before .before .before .loop in
     ⊎-elim
     (λ x. ap (λ (b : Bool). on b 1 + on (not b) (l .mark)) (sym (c .before .is-lost-protected .ensures) ∙ x .0 .taken) ∙ sym (x .1))
     (λ x. ap (λ (b : Bool). on b 1 + on (not b) (l .mark)) (sym (c .before .is-lost-protected .ensures) ∙ x .0 .left) ∙ zero-add (l .mark) ∙ sym (x .1))
     (c .if2 .came)
 
+minus-requires : tie.Need-minus-requires Inv-loop μ-loop
+minus-requires c κs = search needs
+
 loop-holds : tie.Need-loop-holds Inv-loop μ-loop
 loop-holds c =
-    record { within = omega arith; few = c .pre .2; many = c .pre .1; small = c .pre .0; picking = picking-begun _ _ _ _ _ }
+    record { within = omega arith; few = c .before .pre .2; many = c .before .pre .1; small = c .before .pre .0; picking = λ before m. picking-begun _ _ _ _ _ }
 
 mul-row : tie.Need-mul-row Inv-loop μ-loop
 mul-row c = search needs
@@ -75,7 +79,8 @@ element-copy-out-weight c = search needs
 add-weight : tie.Need-add-weight Inv-loop μ-loop
 add-weight c =
     let l = c .before .before .before .before .before .loop in
-    omega (arith, l .inv .picking .small, l .inv .small .weight (l .c))
+    let p = c .before .before .before .before .before .before in
+    omega (arith, l .inv .picking (p .before .args .before) (p .minus .ensures) .small, l .inv .small .weight (l .c))
 
 is-lost-protected-requires : tie.Need-is-lost-protected-requires Inv-loop μ-loop
 is-lost-protected-requires c κs = search needs
@@ -88,19 +93,20 @@ loop-less c = search needs
 
 loop-again : tie.Need-loop-again Inv-loop μ-loop
 loop-again c =
-    let l = c .before .before .before .before .before .before .loop in
+    let l = c .before .before .before .before .before .before .before .loop in
     record {
       within = omega arith;
       few = l .inv .few;
       many = l .inv .many;
       small = l .inv .small;
       picking =
-          picking-next _ _ _ _ _ (l .weight) (l .mark) _ _ (l .c) _ (l .inv .picking) (l .inv .small .weight (l .c)) (c .before .before .before .is-lost .ensures) (weight-next (c .before .before))
-          (mark-next c);
+          λ before m.
+          picking-next _ _ _ _ _ (l .weight) (l .mark) _ _ (l .c) _ (l .inv .picking before m) (l .inv .small .weight (l .c)) (c .before .before .before .before .is-lost .ensures before m)
+          (weight-next (c .before .before .before)) (mark-next c);
     }
 
 returns : tie.Need-returns Inv-loop μ-loop
-returns c = picking-ended _ _ _ _ _ _ _ (c .before .loop .c) _ (c .before .loop .inv .picking) (omega (arith, c .before .loop .inv .within))
+returns c = picking-ended _ _ _ _ _ _ _ (c .before .loop .c) _ (c .before .loop .inv .picking _ (c .before .before .minus .ensures)) (omega (arith, c .before .loop .inv .within))
 
 pub lost-between-spec : {M : Type 1} → statement M
 lost-between-spec =
@@ -108,6 +114,7 @@ lost-between-spec =
     (tie.spec
     Inv-loop
     μ-loop
+    minus-requires
     loop-holds
     mul-row
     element-copy-out-row

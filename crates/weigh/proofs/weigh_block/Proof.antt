@@ -3,10 +3,11 @@ use mathlib.Core.Path.{_≡_}
 use Prim.Native.Nat.{ℕ, _≤_}
 use lib.Dec.{T, T-not}
 use lib.ListN.{length, replicate}
-use Rattle.rows.specs.Rows.{marked}
+use Rattle.rows.specs.Rows.{marked, locationsMost, rowWords}
 use Rattle.graph.specs.Steps.{Walked}
 use Rattle.picture.specs.Picture.{pictureOf}
 use Rattle.picture.proofs.Facts.{read-limited}
+use Rattle.picture.specs.Layout.{endpointsMax}
 use Rattle.network.specs.Words.{isHeld, heldWithout, joins}
 use Rattle.network.specs.Rows.{BlockRow}
 use Rattle.network.proofs.Named.{accepted-named}
@@ -37,7 +38,7 @@ left-walked c =
     walked-over (pictureOf (c .before .before .before .before .before .before .before .before .before .before .args .s .now)) _ _ _ _ _ _ (c .before .before .before .before .before .before .before .before .link-rows .ensures) (left-held _ _ _ _ _ _ (c .before .before .before .before .before .before .slot-rows .ensures) (block (c .before)) (c .before .before .minus .ensures)) (c .walk2 .ensures)
 
 -- what the sums need of the rows
-ready : (c : tie.After-walk2) → Small (c .before .before .before .before .before .endpoint-rows .result .weights) × (length (c .before .before .before .before .before .before .before .service-rows .result) ≡ 241) × (c .before .before .before .before .before .before .before .before .before .before .args .h .endpoints ≤ 200)
+ready : (c : tie.After-walk2) → Small (c .before .before .before .before .before .endpoint-rows .result .weights) × (length (c .before .before .before .before .before .before .before .service-rows .result) ≡ locationsMost) × (c .before .before .before .before .before .before .before .before .before .before .args .h .endpoints ≤ endpointsMax)
 ready c =
     let e = c .before .before .before .before .before .endpoint-rows .ensures in
     (record { many = e .many; weight = λ u. rw (e .weight u) (weight-small (c .before .before .before .before .before .before .before .before .before .before .args .s .now) u) }, c .before .before .before .before .before .before .before .service-rows .ensures .many, read-limited _ _ (c .before .before .before .before .before .before .before .before .before .before .pre .0) .counts .endpoints-most)
@@ -82,7 +83,7 @@ returns c =
     let e = c .before .before .before .before .before .before .before .before .before .before .before .before .before .before .before .endpoint-rows .ensures in
     let d = read-endpoints _ _ (c .before .before .before .before .before .before .before .before .before .before .before .before .before .before .before .before .before .before .before .before .pre .0) in
     let named = accepted-named (a .s .now) (c .before .before .before .before .before .before .before .before .before .before .before .before .before .before .before .before .before .before .before .before .pre .0 .accepted) in
-    let w = served-value p _ _ _ _ named s e d _ _ _ (now-walked k) _ _ _ (clear 4) (c .before .before .before .lost-between .ensures) in
+    let w = served-value p _ _ _ _ named s e d _ _ _ (now-walked k) _ _ _ (clear rowWords) (c .before .before .before .lost-between .ensures) in
     let l = loss-value p _ _ _ _ named s e d _ _ _ (now-walked k) (a .b) _ _ _ (left-walked k) _ _ (c .lost-between2 .ensures) in
     let m = mark-value p _ _ _ _ named s e d _ _ _ (now-walked k) (a .b) _ _ _ (left-walked k) _ _ (c .lost-between2 .ensures) in
     λ i. record { served = w i; loss = l i; mark = m i }

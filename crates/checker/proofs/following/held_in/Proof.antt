@@ -17,7 +17,7 @@ field-requires c κs = search needs
 block-row-requires : tie.Need-block-row-requires
 block-row-requires c κs =
     let p = c .before .before .before .pre in
-    (p .1, rw (c .field .ensures) (p .2 (omega arith)))
+    rw (c .field .ensures) (p .1 (omega arith))
 
 minus-requires : tie.Need-minus-requires
 minus-requires c κs = search needs

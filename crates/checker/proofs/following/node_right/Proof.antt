@@ -25,7 +25,7 @@ depth-read : (c : tie.Start) → c .args .x .depth ≡ nodeOf (forestIn edition1
 depth-read c = c .pre .1 .1 ∙ ap (λ (x : Node). x .depth) (sym (node-read (c .args .n) (c .args .ev .now) (c .args .q) (c .args .v) (c .pre .0 .1) (c .pre .0 .2)))
 
 -- the slot is held, and a link leads to it from its parent
-holds : (c : tie.Else2) → heldIn (c .before .before .before .before .args .held) (c .before .before .before .before .args .v) ≡ true
+holds : (c : tie.Else2) → heldIn (c .before .before .before .before .args .held .now) (c .before .before .before .before .args .v) ≡ true
 holds c = sym (slot-held _ _ (omega (arith, c .before .before .before .before .pre .0 .1))) ∙ sym (c .before .has .ensures) ∙ not-false _ (c .if2 .left)
 
 links : (c : tie.Else4) → linkedIn (c .before .before .before .before .before .before .before .before .args .links .now) (c .before .before .before .before .before .before .before .before .args .x .parent) (c .before .before .before .before .before .before .before .before .args .v) ≡ true
@@ -50,11 +50,11 @@ returns-2 c = node-not-held _ _ _ _ _ _ (parent-read (c .before .before .before 
 returns-3 : tie.Need-returns-3
 returns-3 c = node-parent-out _ _ _ _ _ _ (parent-read (c .before .before .before .before .before)) (depth-read (c .before .before .before .before .before)) (c .before .before .before .if1 .left) (above-in _ _ (rw forest-length (c .if3 .taken)))
 
-mul-row : tie.Need-mul-row
-mul-row c = search needs
+mul-has : tie.Need-mul-has
+mul-has c = search needs
 
-element-copy-out-row : tie.Need-element-copy-out-row
-element-copy-out-row c = search needs
+index-1-has : tie.Need-index-1-has
+index-1-has c = search needs
 
 has-requires-2 : tie.Need-has-requires-2
 has-requires-2 c κs = search needs
@@ -89,8 +89,8 @@ node-right-spec =
     has-requires
     returns-2
     returns-3
-    mul-row
-    element-copy-out-row
+    mul-has
+    index-1-has
     has-requires-2
     returns-4
     returns-5

@@ -7,17 +7,17 @@ use native.Mathlib.Omega.{arith}
 use borrow.Author.Needs.{needs}
 use borrow.Author.Tests.{not-true, not-false}
 use lib.ListN.{replicate}
-use Rattle.rows.specs.Rows.{linkedIn}
+use Rattle.rows.specs.Rows.{linkedIn, slotsMost, rowWords}
 use Rattle.graph.specs.Rounds.{Node}
 use Rattle.graph.specs.Held.{heldIn}
-use Rattle.picture.specs.Layout.{edition1}
-use Rattle.picture.proofs.Facts.{read-sizes, read-limited}
+use Rattle.picture.specs.Layout.{edition1, blocksMax}
+use Rattle.picture.proofs.Facts.{read-limited}
 use Rattle.network.proofs.Named.{accepted-named}
 use Rattle.network.proofs.Weights.{weight-small}
 use Rattle.weigh.proofs.Blocks.{read-slots, read-block-size, read-endpoints}
 use Rattle.evidence.specs.Checks.{forestIn}
 use Rattle.checker.proofs.Nodes.{node-read}
-use Rattle.checker.proofs.Forests.{Followed, followed-begun, followed-in, followed-out, Closed, closed-begun, closed-out, closed-apart}
+use Rattle.checker.proofs.Forests.{Followed, followed-begun, followed-in, followed-out, Closed, closed-begun, closed-none, closed-out, closed-apart}
 use Rattle.checker.proofs.Going.{Tables, Going, going-begun, going-ended, going-node, going-link, going-weight, going-next}
 use Rattle.checker.proofs.Places.{place-small, few-candidates, part-room}
 use Rattle.checker.proofs.following.parts_fault.Statement.{statement}
@@ -74,10 +74,10 @@ tables c =
     }
 
 -- there are few slots and few parts
-few-slots : (c : tie.After-protected Inv-loop μ-loop Inv-loop2 μ-loop2 Inv-check μ-check) → c .before .before .before .before .before .before .before .args .h .slots ≤ 240
+few-slots : (c : tie.After-protected Inv-loop μ-loop Inv-loop2 μ-loop2 Inv-check μ-check) → c .before .before .before .before .before .before .before .args .h .slots ≤ slotsMost
 few-slots c = read-limited _ _ (c .before .before .before .before .before .before .before .pre .0) .slots
 
-few-parts : (c : tie.After-protected Inv-loop μ-loop Inv-loop2 μ-loop2 Inv-check μ-check) → c .before .before .before .before .before .before .before .args .count ≤ 60
+few-parts : (c : tie.After-protected Inv-loop μ-loop Inv-loop2 μ-loop2 Inv-check μ-check) → c .before .before .before .before .before .before .before .args .count ≤ blocksMax
 few-parts c = omega (arith, c .before .before .before .before .before .before .before .pre .3, few-candidates _ _ (c .before .before .before .before .before .before .before .pre .0))
 
 -- so the place of a part is a small number
@@ -91,38 +91,42 @@ followed c =
     rw e at (c .before .loop .inv .followed)
 
 -- and so were the links of what is in it
-closed : (c : tie.After-loop2 Inv-loop μ-loop Inv-loop2 μ-loop2 Inv-check μ-check) → Closed (linkedIn (c .before .before .before .before .before .before .before .before .before .before .before .before .before .link-rows .result)) (c .before .before .before .with2 .result) (c .before .before .minus .result) (c .before .before .before .before .before .before .before .before .before .before .before .before .before .before .before .before .args .h .slots + 1)
+closed : (c : tie.After-loop2 Inv-loop μ-loop Inv-loop2 μ-loop2 Inv-check μ-check) → Closed (linkedIn (c .before .before .before .before .before .before .before .before .before .before .before .before .before .before .before .before .link-rows .result)) (c .before .before .before .before .before .add2 .last .0) (c .before .before .before .before .minus .result) (c .before .before .before .before .before .before .before .before .before .before .before .before .before .before .before .before .before .before .before .args .h .slots + 1)
 closed c =
-    let e : c .before .loop2 .a ≡ c .before .before .before .before .before .before .before .before .before .before .before .before .before .before .before .before .args .h .slots + 1 = omega (arith, c .before .loop2 .inv .within, c .loop2-test .left) in
+    let e : c .before .loop2 .a ≡ c .before .before .before .before .before .before .before .before .before .before .before .before .before .before .before .before .before .before .before .args .h .slots + 1 = omega (arith, c .before .loop2 .inv .within, c .loop2-test .left) in
     rw e at (c .before .loop2 .inv .closed)
 
 -- the slot at hand keeps its rule, and is marked if it is in the forest
-slot-next : (c : tie.Joined2 Inv-loop μ-loop Inv-loop2 μ-loop2 Inv-check μ-check) → Followed (linkedIn (c .before .before .before .before .before .before .before .before .before .before .before .before .before .before .before .link-rows .result)) (heldIn (c .before .before .before .before .before .before .before .before .held-in .result)) (forestIn edition1 (c .before .before .before .before .before .before .before .before .before .before .before .before .before .before .before .before .before .before .args .h .slots) (c .before .before .before .before .before .before .before .before .before .before .before .before .before .before .before .before .before .before .args .ev .now) (72 + c .before .before .before .before .before .before .before .before .before .before .check .k * (40 + c .before .before .before .before .before .before .before .before .before .before .before .before .before .before .before .before .before .before .args .h .slots * 16))) (c .if2 .slots) (c .before .before .before .before .before .before .before .loop .v + 1)
+slot-next : (c : tie.Joined2 Inv-loop μ-loop Inv-loop2 μ-loop2 Inv-check μ-check) → Followed (linkedIn (c .before .before .before .before .before .before .before .before .before .before .before .before .before .before .before .before .link-rows .result)) (heldIn (c .before .before .before .before .before .before .before .before .before .held-in .result)) (forestIn edition1 (c .before .before .before .before .before .before .before .before .before .before .before .before .before .before .before .before .before .before .before .args .h .slots) (c .before .before .before .before .before .before .before .before .before .before .before .before .before .before .before .before .before .before .before .args .ev .now) (72 + c .before .before .before .before .before .before .before .before .before .before .before .check .k * (40 + c .before .before .before .before .before .before .before .before .before .before .before .before .before .before .before .before .before .before .before .args .h .slots * 16))) (c .if2 .slots) (c .before .before .before .before .before .before .before .before .loop .v + 1)
 slot-next c =
-    let a = c .before .before .before .before .before .before .before .before .before .before .before .before .before .before .before .before .before .before .args in
-    let l = c .before .before .before .before .before .before .before .loop in
-    let e = ap (λ (x : Node). x .depth) (node-read (a .h .slots) (a .ev .now) (72 + c .before .before .before .before .before .before .before .before .before .before .check .k * (40 + a .h .slots * 16)) (l .v) (l .inv .some) (c .before .before .before .before .before .before .loop-test .taken)) ∙ sym (c .before .before .before .before .before .node-at .ensures .1) in
+    let a = c .before .before .before .before .before .before .before .before .before .before .before .before .before .before .before .before .before .before .before .args in
+    let l = c .before .before .before .before .before .before .before .before .loop in
+    let e = ap (λ (x : Node). x .depth) (node-read (a .h .slots) (a .ev .now) (72 + c .before .before .before .before .before .before .before .before .before .before .before .check .k * (40 + a .h .slots * 16)) (l .v) (l .inv .some) (c .before .before .before .before .before .before .before .loop-test .taken)) ∙ sym (c .before .before .before .before .before .before .node-at .ensures .1) in
     let r = sym (c .before .before .before .node-right .ensures) ∙ not-false _ (c .before .before .if1 .left) in
     ⊎-elim
-    (λ w. rw (w .2) (followed-in _ _ _ _ (l .v) (l .inv .some) (l .inv .followed) r _ (λ z. w .0 .taken (sym e ∙ z)) (w .1 .ensures)))
+    (λ w. rw (w .3) (followed-in _ _ _ _ (l .v) (l .inv .some) (l .inv .followed) r _ (λ z. w .0 .taken (sym e ∙ z)) (w .2 .ensures)))
     (λ w. rw (w .1) (followed-out _ _ _ _ (l .v) (l .inv .some) (l .inv .followed) r (e ∙ w .0 .left)))
     (c .if2 .came)
 
+-- where nothing is outside, every location counts as looked at
+links-begun : (c : tie.Joined3 Inv-loop μ-loop Inv-loop2 μ-loop2 Inv-check μ-check) → Closed (linkedIn (c .before .before .before .before .before .before .before .before .before .before .before .before .before .before .link-rows .result)) (c .before .before .before .add2 .last .0) (c .before .before .minus .result) (c .if3 .a)
+links-begun c = ⊎-elim (λ w. closed-none _ _ _ _ (rw (w .0 .taken) at (c .before .none-marked .ensures))) (λ w. rw (w .1) (closed-begun _ _ _)) (c .if3 .came)
+
 -- no link leads out of the forest from the location at hand
-links-next : (c : tie.Joined3 Inv-loop μ-loop Inv-loop2 μ-loop2 Inv-check μ-check) → Closed (linkedIn (c .before .before .before .before .before .before .before .before .before .before .before .before .before .before .before .link-rows .result)) (c .before .before .before .before .before .with2 .result) (c .before .before .before .before .minus .result) (c .before .before .before .loop2 .a + 1)
+links-next : (c : tie.Joined4 Inv-loop μ-loop Inv-loop2 μ-loop2 Inv-check μ-check) → Closed (linkedIn (c .before .before .before .before .before .before .before .before .before .before .before .before .before .before .before .before .before .before .before .link-rows .result)) (c .before .before .before .before .before .before .before .before .add2 .last .0) (c .before .before .before .before .before .before .before .minus .result) (c .before .before .before .before .loop2 .a + 1)
 links-next c =
-    let l = c .before .before .before .loop2 in
+    let l = c .before .before .before .before .loop2 in
     ⊎-elim
-    (λ w. closed-apart _ _ _ (l .a) (l .inv .closed) (rw (w .3 .left) at (w .2 .ensures)))
+    (λ w. closed-apart _ _ _ (l .a) (l .inv .closed) (rw (w .4 .left) at (w .3 .ensures)))
     (λ w. closed-out _ _ _ (l .a) (l .inv .closed) (sym (c .before .has .ensures) ∙ w .left))
-    (c .if3 .came)
+    (c .if4 .came)
 
 -- part 0 is weighed against nothing, and each section against the first forest
-at-first : (c : tie.Joined5 Inv-loop μ-loop Inv-loop2 μ-loop2 Inv-check μ-check) → c .before .before .before .before .before .before .before .before .before .check .k ≡ 0 → (c .if5 .now ≡ c .before .before .before .before .with2 .result) × (c .if5 .still ≡ replicate 4 0)
-at-first c e = ⊎-elim (λ w. (w .1, w .2)) (λ w. absurd (w .0 .left e)) (c .if5 .came)
+at-first : (c : tie.Joined6 Inv-loop μ-loop Inv-loop2 μ-loop2 Inv-check μ-check) → c .before .before .before .before .before .before .before .before .before .before .before .before .check .k ≡ 0 → (c .if6 .now ≡ c .before .before .before .before .before .before .add2 .last .0) × (c .if6 .still ≡ replicate rowWords 0)
+at-first c e = ⊎-elim (λ w. (w .1, w .2)) (λ w. absurd (w .0 .left e)) (c .if6 .came)
 
-at-section : (c : tie.Joined5 Inv-loop μ-loop Inv-loop2 μ-loop2 Inv-check μ-check) → c .before .before .before .before .before .before .before .before .before .check .k ≢ 0 → (c .if5 .now ≡ c .before .before .before .before .before .before .before .before .before .check .now) × (c .if5 .still ≡ c .before .before .before .before .with2 .result)
-at-section c n = ⊎-elim (λ w. absurd (n (w .0 .taken))) (λ w. (w .1, w .2)) (c .if5 .came)
+at-section : (c : tie.Joined6 Inv-loop μ-loop Inv-loop2 μ-loop2 Inv-check μ-check) → c .before .before .before .before .before .before .before .before .before .before .before .before .check .k ≢ 0 → (c .if6 .now ≡ c .before .before .before .before .before .before .before .before .before .before .before .before .check .now) × (c .if6 .still ≡ c .before .before .before .before .before .before .add2 .last .0)
+at-section c n = ⊎-elim (λ w. absurd (n (w .0 .taken))) (λ w. (w .1, w .2)) (c .if6 .came)
 
 link-rows-requires :
     tie.Need-link-rows-requires Inv-loop μ-loop Inv-loop2 μ-loop2 Inv-check μ-check
@@ -154,7 +158,7 @@ add-q-2 c = omega (arith, small c)
 held-in-requires : tie.Need-held-in-requires Inv-loop μ-loop Inv-loop2 μ-loop2 Inv-check μ-check
 held-in-requires c κs =
     let r = c .before .before .before .before .before .before .before .before .before .pre .0 in
-    (omega arith, omega (arith, read-sizes _ _ r .size-most), λ l. part-room _ _ r _ (c .before .before .before .before .before .before .before .before .before .pre .2) _ l (omega (arith, c .before .before .before .before .before .before .before .before .before .pre .3, c .check-test .taken)))
+    (omega arith, λ l. part-room _ _ r _ (c .before .before .before .before .before .before .before .before .before .pre .2) _ l (omega (arith, c .before .before .before .before .before .before .before .before .before .pre .3, c .check-test .taken)))
 
 loop-holds : tie.Need-loop-holds Inv-loop μ-loop Inv-loop2 μ-loop2 Inv-check μ-check
 loop-holds c = record { some = omega arith; within = omega arith; none = c .before .before .check .inv .none; followed = followed-begun _ _ _ 4 }
@@ -165,89 +169,96 @@ node-at-requires c κs = (c .before .loop .inv .some, omega (arith, few-slots (c
 node-right-requires :
     tie.Need-node-right-requires Inv-loop μ-loop Inv-loop2 μ-loop2 Inv-check μ-check
 node-right-requires c κs = (
-  (tables (c .before .before .before .before .before .before .before) .link-rows .many, c .before .before .before .loop .inv .some, c .before .before .loop-test .taken, few-slots (c .before .before .before .before .before .before .before), omega (arith, small (c .before .before .before .before .before))),
-  c .before .node-at .ensures,
+  (tables (c .before .before .before .before .before .before .before .before) .link-rows .many, c .before .before .before .before .loop .inv .some, c .before .before .before .loop-test .taken, few-slots (c .before .before .before .before .before .before .before .before), omega (arith, small (c .before .before .before .before .before .before))),
+  c .before .before .node-at .ensures,
 )
 
-with-requires : tie.Need-with-requires Inv-loop μ-loop Inv-loop2 μ-loop2 Inv-check μ-check
-with-requires c κs = omega (arith, few-slots (c .before .before .before .before .before .before .before .before .before .before .before), c .before .before .before .before .before .before .loop-test .taken)
+add-requires : tie.Need-add-requires Inv-loop μ-loop Inv-loop2 μ-loop2 Inv-check μ-check
+add-requires c κs = omega (arith, few-slots (c .before .before .before .before .before .before .before .before .before .before .before .before .before), c .before .before .before .before .before .before .before .before .loop-test .taken)
 
 add-v : tie.Need-add-v Inv-loop μ-loop Inv-loop2 μ-loop2 Inv-check μ-check
-add-v c = omega (arith, few-slots (c .before .before .before .before .before .before .before .before .before .before .before), c .before .before .before .before .before .before .loop-test .taken)
+add-v c = omega (arith, few-slots (c .before .before .before .before .before .before .before .before .before .before .before .before), c .before .before .before .before .before .before .before .loop-test .taken)
 
 loop-less : tie.Need-loop-less Inv-loop μ-loop Inv-loop2 μ-loop2 Inv-check μ-check
 loop-less c = search needs
 
 loop-again : tie.Need-loop-again Inv-loop μ-loop Inv-loop2 μ-loop2 Inv-check μ-check
-loop-again c = record { some = omega arith; within = omega (arith, c .before .before .before .before .before .before .loop-test .taken); none = c .before .before .before .before .before .before .before .loop .inv .none; followed = slot-next c }
+loop-again c = record { some = omega arith; within = omega (arith, c .before .before .before .before .before .before .before .loop-test .taken); none = c .before .before .before .before .before .before .before .before .loop .inv .none; followed = slot-next c }
 
-with-requires-2 : tie.Need-with-requires-2 Inv-loop μ-loop Inv-loop2 μ-loop2 Inv-check μ-check
-with-requires-2 c κs = search needs
+add-requires-2 : tie.Need-add-requires-2 Inv-loop μ-loop Inv-loop2 μ-loop2 Inv-check μ-check
+add-requires-2 c κs = search needs
 
 minus-requires : tie.Need-minus-requires Inv-loop μ-loop Inv-loop2 μ-loop2 Inv-check μ-check
 minus-requires c κs = search needs
 
+none-marked-requires :
+    tie.Need-none-marked-requires Inv-loop μ-loop Inv-loop2 μ-loop2 Inv-check μ-check
+none-marked-requires c κs = search needs
+
+add-a : tie.Need-add-a Inv-loop μ-loop Inv-loop2 μ-loop2 Inv-check μ-check
+add-a c = omega (arith, few-slots (c .before .before .before .before .before .before .before .before .before .before))
+
 loop2-holds : tie.Need-loop2-holds Inv-loop μ-loop Inv-loop2 μ-loop2 Inv-check μ-check
-loop2-holds c = record { within = omega arith; none = c .before .before .before .loop .inv .none; closed = closed-begun _ _ _ }
+loop2-holds c = record { within = ⊎-elim (λ w. omega arith) (λ w. omega arith) (c .if3 .came); none = c .before .before .before .before .before .before .loop .inv .none; closed = links-begun c }
 
 has-requires : tie.Need-has-requires Inv-loop μ-loop Inv-loop2 μ-loop2 Inv-check μ-check
-has-requires c κs = omega (arith, few-slots (c .before .before .before .before .before .before .before .before .before), c .loop2-test .taken)
+has-requires c κs = omega (arith, few-slots (c .before .before .before .before .before .before .before .before .before .before .before .before .before), c .before .loop2-test .taken)
 
 mul-row : tie.Need-mul-row Inv-loop μ-loop Inv-loop2 μ-loop2 Inv-check μ-check
-mul-row c = omega (arith, few-slots (c .before .before .before .before .before .before .before .before .before .before .before), c .before .before .loop2-test .taken)
+mul-row c = omega (arith, few-slots (c .before .before .before .before .before .before .before .before .before .before .before .before .before .before .before .before), c .before .before .before .before .loop2-test .taken)
 
 array-copy-out-row :
     tie.Need-array-copy-out-row Inv-loop μ-loop Inv-loop2 μ-loop2 Inv-check μ-check
-array-copy-out-row c = omega (arith, few-slots (c .before .before .before .before .before .before .before .before .before .before .before), c .before .before .loop2-test .taken)
+array-copy-out-row c = omega (arith, few-slots (c .before .before .before .before .before .before .before .before .before .before .before .before .before .before .before .before), c .before .before .before .before .loop2-test .taken)
 
 meet-requires : tie.Need-meet-requires Inv-loop μ-loop Inv-loop2 μ-loop2 Inv-check μ-check
 meet-requires c κs = search needs
 
-add-a : tie.Need-add-a Inv-loop μ-loop Inv-loop2 μ-loop2 Inv-check μ-check
-add-a c = omega (arith, few-slots (c .before .before .before .before .before .before .before .before .before .before .before), c .before .before .loop2-test .taken)
+add-a-2 : tie.Need-add-a-2 Inv-loop μ-loop Inv-loop2 μ-loop2 Inv-check μ-check
+add-a-2 c = omega (arith, few-slots (c .before .before .before .before .before .before .before .before .before .before .before .before .before .before .before .before), c .before .before .before .before .loop2-test .taken)
 
 loop2-less : tie.Need-loop2-less Inv-loop μ-loop Inv-loop2 μ-loop2 Inv-check μ-check
 loop2-less c = search needs
 
 loop2-again : tie.Need-loop2-again Inv-loop μ-loop Inv-loop2 μ-loop2 Inv-check μ-check
-loop2-again c = record { within = omega (arith, c .before .before .loop2-test .taken); none = c .before .before .before .loop2 .inv .none; closed = links-next c }
+loop2-again c = record { within = omega (arith, c .before .before .before .before .loop2-test .taken); none = c .before .before .before .before .before .loop2 .inv .none; closed = links-next (c .before) }
 
 lost-between-requires :
     tie.Need-lost-between-requires Inv-loop μ-loop Inv-loop2 μ-loop2 Inv-check μ-check
 lost-between-requires c κs =
-    let t = tables (c .before .before .before .before .before .before .before .before .before .before .before .before) in
-    (record { many = t .end-rows .many; weight = λ u. rw (t .end-rows .weight u) (weight-small _ u) }, t .service-rows .many, read-limited _ _ (c .before .before .before .before .before .before .before .before .before .before .before .before .before .before .before .before .before .before .before .pre .0) .counts .endpoints-most)
+    let t = tables (c .before .before .before .before .before .before .before .before .before .before .before .before .before .before .before) in
+    (record { many = t .end-rows .many; weight = λ u. rw (t .end-rows .weight u) (weight-small _ u) }, t .service-rows .many, read-limited _ _ (c .before .before .before .before .before .before .before .before .before .before .before .before .before .before .before .before .before .before .before .before .before .before .pre .0) .counts .endpoints-most)
 
 stated-right-requires :
     tie.Need-stated-right-requires Inv-loop μ-loop Inv-loop2 μ-loop2 Inv-check μ-check
 stated-right-requires c κs = omega arith
 
 add-k : tie.Need-add-k Inv-loop μ-loop Inv-loop2 μ-loop2 Inv-check μ-check
-add-k c = omega (arith, few-parts (c .before .before .before .before .before .before .before .before .before .before .before .before .before .before .before), c .before .before .before .before .before .before .before .before .before .before .before .before .before .check-test .taken)
+add-k c = omega (arith, few-parts (c .before .before .before .before .before .before .before .before .before .before .before .before .before .before .before .before .before .before), c .before .before .before .before .before .before .before .before .before .before .before .before .before .before .before .before .check-test .taken)
 
 check-less : tie.Need-check-less Inv-loop μ-loop Inv-loop2 μ-loop2 Inv-check μ-check
 check-less c = search needs
 
 check-again : tie.Need-check-again Inv-loop μ-loop Inv-loop2 μ-loop2 Inv-check μ-check
 check-again c =
-    going-next (tables (c .before .before .before .before .before .before .before .before .before .before .before .before .before .before .before)) _ _ _ (c .before .before .before .before .before .before .before .before .before .before .before .before .before .before .check .inv) (c .before .before .before .before .before .before .before .before .before .before .before .before .before .check-test .taken) _ (c .before .before .before .before .before .before .before .before .before .before .before .before .held-in .ensures) _ _ _ (c .before .before .before .before .before .before .before .before .before .with2 .ensures) (c .before .before .before .before .before .before .before .before .minus .ensures) (followed (c .before .before .before .before .before .before .before .before .before .before)) (closed (c .before .before .before .before .before .before)) _ _ _ _ (at-first (c .before .before .before .before .before)) (at-section (c .before .before .before .before .before)) (c .before .before .lost-between .ensures)
-    _ (c .before .before .before .before .before .before .before .loop2 .inv .none) (sym (c .before .stated-right .ensures) ∙ not-false _ (c .if6 .left))
+    going-next (tables (c .before .before .before .before .before .before .before .before .before .before .before .before .before .before .before .before .before .before)) _ _ _ (c .before .before .before .before .before .before .before .before .before .before .before .before .before .before .before .before .before .check .inv) (c .before .before .before .before .before .before .before .before .before .before .before .before .before .before .before .before .check-test .taken) _ (c .before .before .before .before .before .before .before .before .before .before .before .before .before .before .before .held-in .ensures) _ _ _ (c .before .before .before .before .before .before .before .before .before .before .before .add2 .ensures) (c .before .before .before .before .before .before .before .before .before .before .minus .ensures) (followed (c .before .before .before .before .before .before .before .before .before .before .before .before .before)) (closed (c .before .before .before .before .before .before)) _ _ _ _ (at-first (c .before .before .before .before .before)) (at-section (c .before .before .before .before .before)) (c .before .before .lost-between .ensures)
+    _ (c .before .before .before .before .before .before .before .loop2 .inv .none) (sym (c .before .stated-right .ensures) ∙ not-false _ (c .if7 .left))
 
 returns : tie.Need-returns Inv-loop μ-loop Inv-loop2 μ-loop2 Inv-check μ-check
 returns c = going-ended (tables (c .before .before)) _ _ _ (c .before .check .inv) (c .check-test .left)
 
 returns-2 : tie.Need-returns-2 Inv-loop μ-loop Inv-loop2 μ-loop2 Inv-check μ-check
-returns-2 c = going-node (tables (c .before .before .before .before .before .before .before .before .before)) _ _ _ (c .before .before .before .before .before .before .before .before .check .inv) (c .before .before .before .before .before .before .before .check-test .taken) _ (c .before .before .before .before .before .before .held-in .ensures) (c .before .before .before .before .before .loop .v) (c .before .before .before .before .before .loop .inv .some) (c .before .before .before .before .loop-test .taken) (sym (c .before .node-right .ensures) ∙ not-true _ (c .if1 .taken))
+returns-2 c = going-node (tables (c .before .before .before .before .before .before .before .before .before .before)) _ _ _ (c .before .before .before .before .before .before .before .before .before .check .inv) (c .before .before .before .before .before .before .before .before .check-test .taken) _ (c .before .before .before .before .before .before .before .held-in .ensures) (c .before .before .before .before .before .before .loop .v) (c .before .before .before .before .before .before .loop .inv .some) (c .before .before .before .before .before .loop-test .taken) (sym (c .before .node-right .ensures) ∙ not-true _ (c .if1 .taken))
 
 returns-3 : tie.Need-returns-3 Inv-loop μ-loop Inv-loop2 μ-loop2 Inv-check μ-check
 returns-3 c =
-    going-link (tables (c .before .before .before .before .before .before .before .before .before .before .before .before .before .before)) _ _ _ (c .before .before .before .before .before .before .before .before .before .before .before .before .before .check .inv) (c .before .before .before .before .before .before .before .before .before .before .before .before .check-test .taken) _ (c .before .before .before .before .before .before .before .before .before .before .before .held-in .ensures) _ _ _ (c .before .before .before .before .before .before .before .before .with2 .ensures) (c .before .before .before .before .before .before .before .minus .ensures) (followed (c .before .before .before .before .before .before .before .before .before)) (c .before .before .before .before .before .before .loop2 .a)
-    (rw (sym (c .before .before .before .before .has .ensures) ∙ c .before .before .before .if3 .taken) tt) (rw (c .if4 .taken) at (c .before .meet .ensures))
+    going-link (tables (c .before .before .before .before .before .before .before .before .before .before .before .before .before .before .before .before .before .before .before)) _ _ _ (c .before .before .before .before .before .before .before .before .before .before .before .before .before .before .before .before .before .before .check .inv) (c .before .before .before .before .before .before .before .before .before .before .before .before .before .before .before .before .before .check-test .taken) _ (c .before .before .before .before .before .before .before .before .before .before .before .before .before .before .before .before .held-in .ensures) _ _ _ (c .before .before .before .before .before .before .before .before .before .before .before .before .add2 .ensures) (c .before .before .before .before .before .before .before .before .before .before .before .minus .ensures) (followed (c .before .before .before .before .before .before .before .before .before .before .before .before .before .before)) (c .before .before .before .before .before .before .before .before .loop2 .a)
+    (rw (sym (c .before .before .before .before .before .has .ensures) ∙ c .before .before .before .before .if4 .taken) tt) (rw (c .if5 .taken) at (c .before .meet .ensures))
 
 returns-4 : tie.Need-returns-4 Inv-loop μ-loop Inv-loop2 μ-loop2 Inv-check μ-check
 returns-4 c =
-    going-weight (tables (c .before .before .before .before .before .before .before .before .before .before .before .before .before .before .before)) _ _ _ (c .before .before .before .before .before .before .before .before .before .before .before .before .before .before .check .inv) (c .before .before .before .before .before .before .before .before .before .before .before .before .before .check-test .taken) _ (c .before .before .before .before .before .before .before .before .before .before .before .before .held-in .ensures) _ _ _ (c .before .before .before .before .before .before .before .before .before .with2 .ensures) (c .before .before .before .before .before .before .before .before .minus .ensures) (followed (c .before .before .before .before .before .before .before .before .before .before)) (closed (c .before .before .before .before .before .before)) _ _ _ _ (at-first (c .before .before .before .before .before)) (at-section (c .before .before .before .before .before)) (c .before .before .lost-between .ensures)
-    (sym (c .before .stated-right .ensures) ∙ not-true _ (c .if6 .taken))
+    going-weight (tables (c .before .before .before .before .before .before .before .before .before .before .before .before .before .before .before .before .before .before)) _ _ _ (c .before .before .before .before .before .before .before .before .before .before .before .before .before .before .before .before .before .check .inv) (c .before .before .before .before .before .before .before .before .before .before .before .before .before .before .before .before .check-test .taken) _ (c .before .before .before .before .before .before .before .before .before .before .before .before .before .before .before .held-in .ensures) _ _ _ (c .before .before .before .before .before .before .before .before .before .before .before .add2 .ensures) (c .before .before .before .before .before .before .before .before .before .before .minus .ensures) (followed (c .before .before .before .before .before .before .before .before .before .before .before .before .before)) (closed (c .before .before .before .before .before .before)) _ _ _ _ (at-first (c .before .before .before .before .before)) (at-section (c .before .before .before .before .before)) (c .before .before .lost-between .ensures)
+    (sym (c .before .stated-right .ensures) ∙ not-true _ (c .if7 .taken))
 
 pub parts-fault-spec : {M : Type 1} → statement M
 parts-fault-spec =
@@ -271,18 +282,20 @@ parts-fault-spec =
     loop-holds
     node-at-requires
     node-right-requires
-    with-requires
+    add-requires
     add-v
     loop-less
     loop-again
-    with-requires-2
+    add-requires-2
     minus-requires
+    none-marked-requires
+    add-a
     loop2-holds
     has-requires
     mul-row
     array-copy-out-row
     meet-requires
-    add-a
+    add-a-2
     loop2-less
     loop2-again
     lost-between-requires

@@ -36,7 +36,7 @@ block-marked-requires c κs =
     let a = c .before .before .before .args in
     let p = c .before .before .before .pre in
     let m = mul-le-mul-right (a .size) (c .loop-test .taken) in
-    (p .1, omega (arith, m, suc-mul (c .before .loop .b) (a .size), p .3, p .0))
+    omega (arith, m, suc-mul (c .before .loop .b) (a .size), p .2, p .0)
 
 section-right-requires : tie.Need-section-right-requires Inv-loop μ-loop
 section-right-requires c κs = search needs

@@ -5,8 +5,7 @@ use borrow.Author.Tests.{eq-eqb, ne-eqb}
 use Rattle.picture.specs.Layout.{edition1}
 use Rattle.evidence.specs.Checks.{sectionIn}
 use Rattle.checker.specs.Forming.{sectionTest}
-use Rattle.checker.proofs.Parts.{block-at, mark-at}
-use Rattle.checker.proofs.Places.{section-small}
+use Rattle.evidence.proofs.Places.{block-at, mark-at, section-small}
 use borrow.Author.Needs.{needs}
 use Rattle.checker.proofs.forming.section_right.Statement.{statement}
 use Rattle.checker.proofs.forming.section_right.Tie as tie

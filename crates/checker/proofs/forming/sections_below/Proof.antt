@@ -8,7 +8,7 @@ use native.Mathlib.Nat.{add-zero}
 use borrow.Author.Tests.{lt-ltb, le-ltb}
 use Rattle.lists.specs.Lists.{range, on, sum}
 use Rattle.checker.specs.Forming.{blocksBelow}
-use Rattle.checker.proofs.Parts.{block-at}
+use Rattle.evidence.proofs.Places.{block-at}
 use Rattle.checker.proofs.Showing.{below-more}
 use borrow.Author.Needs.{needs}
 use Rattle.checker.proofs.forming.sections_below.Statement.{statement}

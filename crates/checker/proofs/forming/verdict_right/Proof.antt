@@ -9,8 +9,7 @@ use Rattle.lists.specs.Lists.{sum}
 use Rattle.picture.specs.Layout.{fieldIn}
 use Rattle.evidence.specs.Layout.{headWidths}
 use Rattle.evidence.specs.Checks.{headIn}
-use Rattle.checker.proofs.Parts.{block-at, loss-at, mark-at}
-use Rattle.checker.proofs.Places.{section-small}
+use Rattle.evidence.proofs.Places.{block-at, loss-at, mark-at, section-small}
 use Rattle.checker.proofs.Verdicts.{Implied, implied-begun, implied-next, verdict-differs, loss-differs, none-right, chosen-right}
 use borrow.Author.Needs.{needs}
 use Rattle.checker.proofs.forming.verdict_right.Statement.{statement}

@@ -1,11 +1,10 @@
 -- `section_at` tells where a section starts. Assumes nothing.
 use mathlib.Core.Path.{sym}
 use native.Mathlib.Omega.{arith}
-use Rattle.checker.proofs.Parts.{section-at}
-use Rattle.checker.proofs.Places.{section-small}
+use Rattle.evidence.proofs.Places.{section-at, section-small}
 use borrow.Author.Needs.{needs}
-use Rattle.checker.proofs.forming.section_at.Statement.{statement}
-use Rattle.checker.proofs.forming.section_at.Tie as tie
+use Rattle.evidence.proofs.section_at.Statement.{statement}
+use Rattle.evidence.proofs.section_at.Tie as tie
 
 mul-result : tie.Need-mul-result
 mul-result c = search needs

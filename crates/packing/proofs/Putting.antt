@@ -9,11 +9,10 @@ use lib.Seq.{getD-set-same, getD-set-other}
 use Rattle.bits.specs.Bits.{bitAt, putField}
 use Rattle.bits.proofs.Reading.{fieldAt-byte}
 use Rattle.bits.proofs.Writing.{length-putField, putField-out}
 use Rattle.packing.specs.Packing.{Field}
-use Rattle.packing.specs.Holding.{span, Holds}
+use Rattle.packing.specs.Holding.{span, Holds, Put}
 use Rattle.packing.proofs.Fields.{span-append, append-holds}
 use Rattle.packing.proofs.Written.{holds-ext, put-holds}
-use Rattle.choose.specs.Writing.{Put}
 
 -- nothing is written yet
 pub put-none : (bs : List ℕ) (q : ℕ) → Put bs q [] bs

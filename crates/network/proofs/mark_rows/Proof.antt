@@ -1,0 +1,139 @@
+-- `mark_rows` marks every link, or every service link in the row of its endpoint. Assumes nothing.
+use mathlib.Core.Path.{_≡_, refl, sym, ap, ap₂, _∙_}
+use native.Mathlib.Omega.{arith}
+use mathlib.Core.Bool.{Bool, true, false, _||_, and-comm}
+use mathlib.Core.List.{List, [], _∷_, map}
+use mathlib.Core.Logic.{⊎-elim}
+use Prim.Native.Nat.{ℕ, _-_, _<_}
+use lib.Dec.{eqb}
+use lib.ListN.{length, getD, length-map, List·getD-map}
+use Rattle.lists.specs.Lists.{any}
+use Rattle.picture.specs.declared.Header.{Header}
+use Rattle.picture.specs.declared.Link.{Link}
+use Rattle.picture.specs.Answers.{Read}
+use Rattle.picture.specs.Layout.{edition1}
+use Rattle.picture.specs.Picture.{Picture, pictureOf, pictureWith}
+use Rattle.picture.specs.Rules.{noLink}
+use Rattle.picture.proofs.Facts.{read-picture, read-sizes, read-limited, read-links, read-services, read-links-length, read-services-length}
+use Rattle.network.specs.Words.{joins}
+use Rattle.network.specs.Rows.{RowsOf, countOf, tableOf}
+use Rattle.network.proofs.Making.{Linking, linking-begun, linking-next, linking-ended}
+use borrow.Author.Needs.{needs}
+use Rattle.network.proofs.mark_rows.Statement.{statement}
+use Rattle.network.proofs.mark_rows.Tie as tie
+
+-- a service link turned around leads from its endpoint to its location
+abbrev turned : Link → Link
+turned l = record { from = l .to; to = l .from }
+
+-- and joins the other way
+joins-turned : (ls : List Link) (a b : ℕ) → joins (map turned ls) a b ≡ joins ls b a
+unfolding joins any
+joins-turned [] a b = refl
+joins-turned (l ∷ ls) a b = ap₂ _||_ (and-comm (eqb (l .to) a) (eqb (l .from) b)) (joins-turned ls a b)
+
+-- the marks of the table, each a link from its row to what that row marks
+abbrev marksOf : Bool → Picture → List Link
+marksOf false p = p .links
+marksOf true p = map turned (p .services)
+
+-- once all are there, the table is the one that is asked for
+all-marked : (b : Bool) (p : Picture) (table : List (List ℕ)) → RowsOf (joins (marksOf b p)) table → RowsOf (tableOf b p) table
+all-marked false p table r = r
+all-marked true p table r = record { many = r .many; same = λ c a. r .same c a ∙ joins-turned (p .services) c a }
+
+module _ (s : List ℕ) (h : Header) (r : Read s h) where
+  -- they are as many as the header says
+  long : (b : Bool) → length (marksOf b (pictureOf s)) ≡ countOf b h
+  long false = read-links-length s h r
+  long true = length-map (pictureOf s .services) turned ∙ read-services-length s h r
+
+  -- what is read is a mark
+  link : (b : Bool) (i : ℕ) (l : Link) → b ≡ false → l ≡ getD (pictureWith edition1 h s .links) i noLink → l ≡ getD (marksOf b (pictureOf s)) i noLink
+  link b i l f e = rw (f, sym (read-picture s h r)) e
+
+  service : (b : Bool) (i : ℕ) (l : Link) → b ≡ true → l ≡ getD (pictureWith edition1 h s .services) i noLink → turned l ≡ getD (marksOf b (pictureOf s)) i noLink
+  service b i l t e = rw (t, sym (read-picture s h r)) (ap turned e ∙ sym (List·getD-map turned (pictureWith edition1 h s .services) i noLink))
+
+abbrev Inv-loop : tie.InvT-loop
+Inv-loop s h count services table₀ i₀ table i = Linking (marksOf services (pictureOf s)) table i
+
+abbrev μ-loop : tie.MeasureT-loop
+μ-loop s h count services table₀ i₀ table i = count - i
+
+loop-holds : tie.Need-loop-holds Inv-loop μ-loop
+loop-holds c = let a = c .before .args in linking-begun (marksOf (a .services) (pictureOf (a .s .now)))
+
+nth-service-link-requires : tie.Need-nth-service-link-requires Inv-loop μ-loop
+nth-service-link-requires c κs =
+    let a = c .before .before .before .before .args in
+    let p = c .before .before .before .before .pre in
+    (read-limited _ _ (p .0), omega (arith, p .1, ap (λ (b : Bool). countOf b (a .h)) (c .if1 .taken)))
+
+mark-requires : tie.Need-mark-requires Inv-loop μ-loop
+mark-requires c κs =
+    let a = c .before .before .before .before .before .before .args in
+    let p = c .before .before .before .before .before .before .pre in
+    let l = c .before .before .before .before .loop in
+    let k = read-services _ _ (p .0) in
+    let z = read-sizes _ _ (p .0) in
+    let n = read-limited _ _ (p .0) in
+    let small : l .i < length (pictureOf (a .s .now) .services) = omega (arith, read-services-length _ _ (p .0), nth-service-link-requires (c .before .before) κs .1) in
+    rw (c .before .nth-service-link .ensures, read-picture _ _ (p .0)) (l .inv .many, omega (arith, k .endpoint-most (l .i) small), omega (arith, k .location (l .i) small))
+
+nth-link-requires : tie.Need-nth-link-requires Inv-loop μ-loop
+nth-link-requires c κs =
+    let a = c .before .before .before .before .args in
+    let p = c .before .before .before .before .pre in
+    (read-limited _ _ (p .0), omega (arith, p .1, ap (λ (b : Bool). countOf b (a .h)) (c .if1 .left)))
+
+mark-requires-2 : tie.Need-mark-requires-2 Inv-loop μ-loop
+mark-requires-2 c κs =
+    let a = c .before .before .before .before .before .before .args in
+    let p = c .before .before .before .before .before .before .pre in
+    let l = c .before .before .before .before .loop in
+    let k = read-links _ _ (p .0) in
+    let z = read-sizes _ _ (p .0) in
+    let small : l .i < length (pictureOf (a .s .now) .links) = omega (arith, read-links-length _ _ (p .0), nth-link-requires (c .before .before) κs .1) in
+    rw (c .before .nth-link .ensures, read-picture _ _ (p .0)) (l .inv .many, omega (arith, k .from (l .i) small), omega (arith, k .to (l .i) small))
+
+add-i : tie.Need-add-i Inv-loop μ-loop
+add-i c = search needs
+
+loop-less : tie.Need-loop-less Inv-loop μ-loop
+loop-less c = search needs
+
+loop-again : tie.Need-loop-again Inv-loop μ-loop
+loop-again c =
+    let a = c .before .before .before .before .args in
+    let p = c .before .before .before .before .pre in
+    let l = c .before .before .loop in
+    let marks = marksOf (a .services) (pictureOf (a .s .now)) in
+    let small : l .i < length marks = omega (arith, long _ _ (p .0) (a .services), p .1) in
+    ⊎-elim
+    (λ w. rw (w .4) (linking-next marks (l .table) _ (l .i) (turned (w .1 .result)) (l .inv) small (service _ _ (p .0) _ _ _ (w .0 .taken) (w .1 .ensures)) (w .3 .ensures)))
+    (λ w. rw (w .4) (linking-next marks (l .table) _ (l .i) (w .1 .result) (l .inv) small (link _ _ (p .0) _ _ _ (w .0 .left) (w .1 .ensures)) (w .3 .ensures)))
+    (c .if1 .came)
+
+returns : tie.Need-returns Inv-loop μ-loop
+returns c =
+    let a = c .before .before .before .args in
+    let p = c .before .before .before .pre in
+    let l = c .before .loop in
+    all-marked (a .services) (pictureOf (a .s .now)) (l .table) (linking-ended _ (l .table) (l .i) (l .inv) (omega (arith, long _ _ (p .0) (a .services), p .1)))
+
+pub mark-rows-spec : {M : Type 1} → statement M
+mark-rows-spec =
+    tie.close
+    (tie.spec
+    Inv-loop
+    μ-loop
+    loop-holds
+    nth-service-link-requires
+    mark-requires
+    nth-link-requires
+    mark-requires-2
+    add-i
+    loop-less
+    loop-again
+    returns)
