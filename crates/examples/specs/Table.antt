@@ -3,16 +3,15 @@ use mathlib.Core.List.{List, [], _∷_, _++_}
 use Prim.Native.Nat.{ℕ}
 use lib.ListN.{set, take, drop, replicate}
 use Rattle.picture.specs.Faults.{pictureFault}
-use Rattle.weigh.specs.declared.Weighing.{Weighing}
-use Rattle.weigh.specs.declared.Weighing.the-variants.{Weighed, Refused}
-use Rattle.weigh.specs.Weighing.{weighing}
+use Rattle.weigh.specs.Weighing.{weighing, weighingNumbers}
 use Rattle.evidence.specs.Canonical.{evidenceOf}
 use Rattle.evidence.specs.Checks.{checkFault}
 use Rattle.evidence.specs.Calls.{lengthFor, chooseFault, shown}
 use Rattle.acts.specs.declared.Act.{Act}
 use Rattle.acts.specs.declared.Act.the-variants.{Evict, Reload, Free}
 use Rattle.acts.specs.Acts.{actFault, actBytes}
-use Rattle.examples.specs.Cases.{evidenceA, caseA, caseB, caseC, caseD, caseE, caseF, caseG, caseH, caseI, caseJ, caseK, caseM}
+use Rattle.listing.specs.Listing.{listing}
+use Rattle.examples.specs.Cases.{evidenceA, caseA, caseB, caseC, caseD, caseE, caseF, caseG, caseH, caseI, caseJ, caseK, caseM, linesA}
 
 -- what is asked
 pub data Question : Type 0 where
@@ -28,13 +27,10 @@ pub data Question : Type 0 where
   check : List ℕ → List ℕ → Question
   -- the part of the evidence that show hands back
   show : List ℕ → List ℕ → Question
+  -- what the program prints
+  list : List ℕ → Question
   -- the number of an act's first fault, and the picture's bytes 7 and 8, in which A has its four slots, at exit
   act : Act → List ℕ → ℕ → Question
-
--- a refusal is its number alone; an answer is 0 and what is told
-unfoldable pub weighingNumbers : Weighing → List ℕ
-weighingNumbers (Weighed w) = 0 ∷ w .served ∷ w .loss ∷ w .mark ∷ []
-weighingNumbers (Refused k) = k ∷ []
 
 unfoldable pub answer : Question → List ℕ
 answer (fault bs) = pictureFault bs ∷ []
@@ -43,13 +39,14 @@ answer (choose bs k) = chooseFault bs (replicate k 0) ∷ lengthFor bs ∷ []
 answer (evidence bs k) = take k (evidenceOf bs)
 answer (check bs ev) = checkFault bs ev ∷ []
 answer (show bs ev) = shown bs ev
+answer (list bs) = listing bs
 answer (act a bs b) = actFault a bs b ∷ take 2 (drop 7 (actBytes a bs b))
 
 pub record Row : Type 0 where
   pub question : Question
   pub says : List ℕ
 
--- a picture of n far slots in blocks of β, all held, with nothing else; a header as it stands in the bytes, and the bytes of the slots
+-- a picture of n far slots, all held, with nothing else: its first byte, which has the edition and β, n, and the bytes of the slots
 unfoldable pub slotsOnly : ℕ → ℕ → ℕ → List ℕ
 slotsOnly first n bytes = first ∷ n ∷ 0 ∷ 0 ∷ 0 ∷ 0 ∷ 0 ∷ replicate bytes 0
 
@@ -125,10 +122,11 @@ table =
     ∷ record { question = evidence caseG 9; says = 0x10 ∷ 0 ∷ 0 ∷ 0 ∷ 0 ∷ 0 ∷ 0 ∷ 0 ∷ 0 ∷ [] }
     ∷ record { question = check caseG (evidenceOf caseG); says = 0 ∷ [] }
     ∷ record { question = choose caseH 43; says = 0 ∷ 43 ∷ [] }
-    ∷ record { question = evidence caseH 9; says = 0x11 ∷ 1 ∷ 2 ∷ 0 ∷ 0 ∷ 42 ∷ 0 ∷ 0 ∷ 12 ∷ [] }
+    ∷ record { question = evidence caseH 43; says = evidenceA }
     ∷ record { question = check caseH (evidenceOf caseH); says = 0 ∷ [] }
     ∷ record { question = choose caseI 43; says = 0 ∷ 43 ∷ [] }
-    ∷ record { question = evidence caseI 9; says = 0x11 ∷ 1 ∷ 2 ∷ 0 ∷ 0 ∷ 42 ∷ 0 ∷ 0 ∷ 12 ∷ [] }
+    -- I: slots 1 and 3 are unreached
+    ∷ record { question = evidence caseI 17; says = 0x11 ∷ 1 ∷ 2 ∷ 0 ∷ 0 ∷ 42 ∷ 0 ∷ 0 ∷ 12 ∷ 0 ∷ 0 ∷ 0 ∷ 1 ∷ 0 ∷ 0 ∷ 0 ∷ 1 ∷ [] }
     ∷ record { question = check caseI (evidenceOf caseI); says = 0 ∷ [] }
     ∷ record { question = choose caseJ 43; says = 0 ∷ 43 ∷ [] }
     ∷ record { question = evidence caseJ 9; says = 0x11 ∷ 1 ∷ 2 ∷ 0 ∷ 0 ∷ 12 ∷ 0 ∷ 0 ∷ 12 ∷ [] }
@@ -139,7 +137,8 @@ table =
     ∷ record { question = choose caseM 43; says = 0 ∷ 43 ∷ [] }
     ∷ record { question = evidence caseM 9; says = 0x11 ∷ 0 ∷ 2 ∷ 0 ∷ 0 ∷ 0 ∷ 0 ∷ 0 ∷ 0 ∷ [] }
     ∷ record { question = check caseM (evidenceOf caseM); says = 0 ∷ [] }
-    -- A's evidence in full, and the refusals of choose and check, each from A's evidence with one byte changed
+    -- A's evidence in full, and the refusals of choose and check: a short buffer, no picture, no evidence, and A's evidence with a byte more
+    -- or one changed
     ∷ record { question = evidence caseA 43; says = evidenceA }
     ∷ record { question = choose caseA 42; says = 9 ∷ 43 ∷ [] }
     ∷ record { question = choose [] 0; says = 1 ∷ 9 ∷ [] }
@@ -153,6 +152,10 @@ table =
     ∷ record { question = show caseC (evidenceOf caseC); says = [] }
     -- D has two least candidates: evidence that names the higher one passes too
     ∷ record { question = check caseD (set (evidenceOf caseD) 1 1); says = 0 ∷ [] }
+    -- what the program prints for A, for G ("served 0", "choose none") and for A and one byte 00 ("refused 7")
+    ∷ record { question = list caseA; says = linesA }
+    ∷ record { question = list caseG; says = 115 ∷ 101 ∷ 114 ∷ 118 ∷ 101 ∷ 100 ∷ 32 ∷ 48 ∷ 10 ∷ 99 ∷ 104 ∷ 111 ∷ 111 ∷ 115 ∷ 101 ∷ 32 ∷ 110 ∷ 111 ∷ 110 ∷ 101 ∷ 10 ∷ [] }
+    ∷ record { question = list (caseA ++ (0 ∷ [])); says = 114 ∷ 101 ∷ 102 ∷ 117 ∷ 115 ∷ 101 ∷ 100 ∷ 32 ∷ 55 ∷ 10 ∷ [] }
     -- acts: K is A after evicting block 1; the refusals leave the bytes as they were
     ∷ record { question = act Evict caseA 1; says = 0 ∷ 0x25 ∷ 0xB0 ∷ [] }
     ∷ record { question = act Evict caseA 0; says = 10 ∷ 0x24 ∷ 0x90 ∷ [] }

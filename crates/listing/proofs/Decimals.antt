@@ -1,0 +1,87 @@
+-- Numbers in decimal: how many digits they take. Assumes nothing.
+use mathlib.Core.Path.{_≡_, refl, sym, ap, _∙_}
+use mathlib.Core.Bool.{Bool, true, false}
+use mathlib.Core.Logic.{by-cases}
+use mathlib.Core.List.{List}
+use Prim.Native.Nat.{ℕ, zero, suc, _+_, _/_, _^_, _≤_, _<_}
+use native.Mathlib.Omega.{arith}
+use native.Mathlib.Nat.{add-zero, pow-succ', pow-le-pow-right}
+use native.Mathlib.Numerals.{one-add, unary-clauses}
+use native.Mathlib.Decide.{ℕ-discrete, decLt}
+use borrow.Author.Tests.{lt-ltb, le-ltb}
+use lib.Dec.{ltb}
+use lib.ListN.{length, take, length-append}
+use Rattle.lists.specs.Lists.{range, place}
+use Rattle.lists.proofs.Ranges.{length-range}
+use Rattle.lists.proofs.Searches.{place-le, place-first}
+use Rattle.lists.proofs.Picks.{getD-range}
+use Rattle.bits.specs.Bits.{fieldAt}
+use Rattle.bits.proofs.Reading.{fieldAt-below}
+use Rattle.io.specs.Digits.{digits, Fewest}
+use Rattle.listing.specs.Text.{places, decimal, Texted}
+use Rattle.listing.specs.Listing.{item}
+
+-- the place of the first number that passes is j, where the j before it do not and it does, or the numbers end
+place-is : (f : ℕ → Bool) (i k j : ℕ) → j ≤ k → ((m : ℕ) → m < j → f (i + m) ≡ false) → (j < k → f (i + j) ≡ true) → place f (range i k) ≡ j
+unfolding place range
+place-is f i zero j h a b = omega arith
+place-is f i (suc k) zero h a b = rw (rw add-zero at (b (omega arith)))
+place-is f i (suc k) (suc j) h a b =
+    rw (rw add-zero at (a 0 (omega arith)), place-is f (suc i) k j (omega arith) (λ m l. ap f (omega arith) ∙ a (suc m) (omega arith)) (λ l. ap f (omega arith) ∙ b (omega arith)))
+
+-- j is below 10 to the j
+below-power : (j : ℕ) → j < 10 ^ j
+below-power zero = omega arith
+below-power (suc j) = omega (arith, pow-succ' 10 j, below-power j)
+
+-- the fewest digits that hold n are its places
+pub fewest-places : (n r : ℕ) → Fewest 10 1 n r → r ≡ places n
+unfolding places
+fewest-places n zero f = absurd (omega (arith, f .0))
+fewest-places n (suc j) f = ap suc (sym (place-is (λ k. ltb n (10 ^ k)) 1 n j ends before here))
+  where
+    least : 0 < j → 10 ^ j ≤ n
+    least l = simp unary-clauses at (f .2 (omega arith))
+
+    ends : j ≤ n
+    ends = by-cases (ℕ-discrete j 0) (λ e. omega arith) (λ e. omega (arith, below-power j, least (omega arith)))
+
+    before : (m : ℕ) → m < j → ltb n (10 ^ (1 + m)) ≡ false
+    before m l = le-ltb n (10 ^ (1 + m)) (omega (arith, least (omega arith), pow-le-pow-right {n = 10} (omega arith) {i = 1 + m} {j = j} (omega arith)))
+
+    here : j < n → ltb n (10 ^ (1 + j)) ≡ true
+    here l = lt-ltb n (10 ^ (1 + j)) (rw one-add (f .1))
+
+-- k digits are k bytes
+length-digits : (k n : ℕ) → length (digits 10 k n) ≡ k
+length-digits zero n = refl
+length-digits (suc k) n = length-append (digits 10 k (n / 10)) _ ∙ omega (arith, length-digits k (n / 10))
+
+-- a number below 10 to the 8 takes at most eight digits
+pub decimal-short : (n : ℕ) → n < 10 ^ 8 → length (decimal n) ≤ 8
+unfolding decimal places
+decimal-short n h =
+    let fits : ℕ → Bool = λ k. ltb n (10 ^ k) in
+    let few : place fits (range 1 n) ≤ 7 =
+    by-cases (decLt 7 n)
+    (λ l. place-first 0 fits (range 1 n) 7 (rw (length-range 1 n) l) (rw (getD-range 0 1 n 7 l, lt-ltb n (10 ^ 8) h) tt))
+    (λ l. omega (arith, place-le fits (range 1 n), length-range 1 n)) in
+    omega (arith, length-digits (places n) n)
+
+-- a word and its number take at most eight bytes more than the word
+pub item-short : (word : List ℕ) (n : ℕ) → n < 10 ^ 8 → length (item word n) ≤ length word + 8
+unfolding item
+item-short word n h = omega (arith, length-append word (decimal n), decimal-short n h)
+
+-- so that they end there
+pub item-ends : {buf : List ℕ} {at : ℕ} (word : List ℕ) {n : ℕ} {out : List ℕ} {end : ℕ} → Texted buf at (item word n) out end → n < 10 ^ 8 → end ≤ at + (length word + 8)
+item-ends word {n} t h = omega (arith, t .ends, item-short word n h)
+
+-- a field of the evidence has at most eight digits
+pub field-small : (ev : List ℕ) (p w : ℕ) {v : ℕ} → v ≡ fieldAt ev p w → w ≤ 24 → v < 10 ^ 8
+field-small ev p w e h = omega (arith, fieldAt-below ev p w 24 e h)
+
+-- the digits that are written are the number in decimal
+pub written-decimal : {n r : ℕ} (out : List ℕ) → Fewest 10 1 n r → take r out ≡ digits 10 r n → take r out ≡ decimal n
+unfolding decimal
+written-decimal {n} {r} out f e = e ∙ ap (λ (k : ℕ). digits 10 k n) (fewest-places n r f)

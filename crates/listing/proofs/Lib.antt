@@ -1,0 +1,7 @@
+-- The laws that the proofs of `listing` cite.
+pub mod Texts
+pub mod Decimals
+pub mod Lines
+pub mod Told
+pub mod Answering
+pub mod Long

@@ -1,0 +1,38 @@
+-- `put_refused` puts the number of the refusal. Assumes nothing.
+use native.Mathlib.Omega.{arith}
+use Rattle.listing.specs.Listing.{refusedWord, lineEnd, refusedLine}
+use Rattle.listing.proofs.Texts.{text-then}
+use Rattle.listing.proofs.Decimals.{item-ends}
+use borrow.Author.Needs.{needs}
+use Rattle.listing.proofs.put_refused.Statement.{statement}
+use Rattle.listing.proofs.put_refused.Tie as tie
+
+slice-aggregate-put-item : tie.Need-slice-aggregate-put-item
+slice-aggregate-put-item c = search needs
+
+put-item-requires : tie.Need-put-item-requires
+put-item-requires c κs = search needs
+
+slice-aggregate-put-word : tie.Need-slice-aggregate-put-word
+slice-aggregate-put-word c = search needs
+
+put-word-requires : tie.Need-put-word-requires
+put-word-requires c κs = omega (arith, item-ends _ (c .before .before .before .before .put-item .ensures) (omega arith))
+
+same-length : tie.Need-same-length
+same-length c = search needs
+
+returns : tie.Need-returns
+unfolding refusedLine refusedWord lineEnd
+returns c = text-then (c .before .before .before .before .before .before .before .put-item .ensures) (c .before .before .put-word .ensures)
+
+pub put-refused-spec : {M : Type 1} → statement M
+put-refused-spec =
+    tie.close
+    (tie.spec
+    slice-aggregate-put-item
+    put-item-requires
+    slice-aggregate-put-word
+    put-word-requires
+    same-length
+    returns)
