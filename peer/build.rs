@@ -2,6 +2,7 @@
 //! unit tests must build without it.
 
 use std::env;
+use std::path::PathBuf;
 
 const FOLDER: &str = "BLOCKPLAN_LIB_DIR";
 const LIBRARY: &str = "blockplan_c";
@@ -15,14 +16,17 @@ fn main() {
 }
 
 fn link() {
-    let Ok(folder) = env::var(FOLDER) else {
-        panic!("the feature `archive` needs {FOLDER}, the folder of lib{LIBRARY}.a")
-    };
-    println!("cargo:rustc-link-search=native={folder}");
+    let folder = folder();
+    let archive = folder.join(format!("lib{LIBRARY}.a"));
+    assert!(archive.exists(), "{} is not there: run `rt staticlib {LIBRARY}`", archive.display());
+    println!("cargo:rustc-link-search=native={}", folder.display());
     println!("cargo:rustc-link-lib=static={LIBRARY}");
     // Without this a rebuilt archive would not be linked again.
-    println!("cargo:rerun-if-changed={folder}/lib{LIBRARY}.a");
-    // An archive for C stands alone: its runtime, or its panic handler, may have the names that
-    // std's have here. The first is taken, which makes no difference unless something panics.
-    println!("cargo:rustc-link-arg-bins=-Wl,--allow-multiple-definition");
+    println!("cargo:rerun-if-changed={}", archive.display());
+}
+
+/// The folder that the variable names, or the one in which the archive is made.
+fn folder() -> PathBuf {
+    let made = || PathBuf::from(env!("CARGO_MANIFEST_DIR")).join("../target/staticlib");
+    env::var_os(FOLDER).map_or_else(made, PathBuf::from)
 }

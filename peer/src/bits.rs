@@ -54,7 +54,7 @@ impl BitWriter {
     pub fn field(&mut self, width: usize, value: u32) {
         let mut missing = width;
         while missing > 0 {
-            if self.position.is_multiple_of(8) {
+            if self.position % 8 == 0 {
                 self.bytes.push(0);
             }
             let left = 8 - self.position % 8;

@@ -73,11 +73,11 @@ impl Plan {
     }
 }
 
-pub fn evidence_bytes(slots: usize, candidates: usize) -> usize {
+pub const fn evidence_bytes(slots: usize, candidates: usize) -> usize {
     HEAD_BYTES + 2 * slots + candidates * section_bytes(slots)
 }
 
-pub fn section_bytes(slots: usize) -> usize {
+pub const fn section_bytes(slots: usize) -> usize {
     SECTION_HEAD_BYTES + 2 * slots
 }
 

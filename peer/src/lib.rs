@@ -4,17 +4,21 @@
 //! Words are those of document 01, with origin for the office, endpoint for a cab and network for
 //! a farm. Refusals are the numbers of document 01, see [`fault`].
 
-#![forbid(unsafe_code)]
+#![deny(unsafe_code)]
 
 pub mod acts;
 pub mod bits;
 pub mod check;
 pub mod choice;
 pub mod fault;
+pub mod listing;
 pub mod picture;
 pub mod reach;
 
-// Inputs for the tests and for the two binaries.
+#[cfg(feature = "archive")]
+pub mod archive;
+
+// Inputs for the tests, the comparison and the benchmark.
 pub mod foreign;
 pub mod networks;
 pub mod random;
@@ -23,6 +27,7 @@ pub mod samples;
 pub use acts::{evict, free, reload};
 pub use check::{check, show};
 pub use choice::{choose, weigh};
+pub use listing::listing;
 pub use picture::{read, write, Picture};
 
 #[cfg(test)]

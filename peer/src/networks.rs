@@ -40,9 +40,10 @@ impl Size {
         }
     }
 
-    /// Every count at its limit.
+    /// Slots, endpoints, links and serving links at their limits, and blocks too where a block has 4
+    /// slots.
     pub fn full(random: &mut Random) -> Size {
-        let block_size = random.between(4, MAX_BLOCK_SIZE);
+        let block_size = *random.pick(&[4, 4, 4, 5, 6, 8]);
         Size {
             block_size,
             slots: block_size * (MAX_SLOTS / block_size),
@@ -120,6 +121,14 @@ pub fn long_chain(block_size: usize, slots: usize, endpoints: usize) -> Picture 
         endpoints: vec![Endpoint { weight: 1, protected: false }; endpoints],
         links: (0..slots).map(|from| (from as u8, from as u8 + 1)).collect(),
         serving: (1..=slots).map(served).collect(),
+    }
+}
+
+/// Links named again until there are as many as there may be.
+pub fn repeat_links(random: &mut Random, picture: &mut Picture) {
+    while picture.links.len() < MAX_LINKS {
+        let link = *random.pick(&picture.links);
+        picture.links.push(link);
     }
 }
 

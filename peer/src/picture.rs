@@ -123,7 +123,7 @@ impl Header {
         let size = usize::from(self.block_size);
         (1..=MAX_BLOCK_SIZE).contains(&size)
             && (1..=MAX_SLOTS).contains(&self.slots)
-            && self.slots.is_multiple_of(size)
+            && self.slots % size == 0
             && self.slots / size <= MAX_BLOCKS
     }
 

@@ -1,6 +1,9 @@
-//! The field examples of document 01: A to K and M.
+//! The field examples of document 01, A to K and M, a larger network and the longest picture.
 
-use crate::picture::{Endpoint, Picture, Slot, State};
+use crate::networks::{dense_held, Size};
+use crate::picture::{write, Endpoint, Picture, Slot, State};
+use crate::picture::{MAX_BLOCKS, MAX_ENDPOINTS, MAX_LINKS, MAX_SLOTS};
+use crate::random::Random;
 
 /// Case A as document 01 prints it.
 pub const A_BYTES: [u8; 27] = [
@@ -82,4 +85,65 @@ pub fn all() -> Vec<(char, Picture)> {
 pub fn case(letter: char) -> Picture {
     let found = all().into_iter().find(|(name, _)| *name == letter);
     found.expect("a letter of document 01's examples").1
+}
+
+/// A larger network: 12 blocks of 4 slots and 18 endpoints. Slots 1 to 24 are three lines of eight
+/// from the origin, which a ring joins in their middles. Slots 25 to 48 hang on one slot of the
+/// lines each, every fourth one on a second; one of them serves each endpoint, and a second one every
+/// other endpoint. The first eight blocks are near.
+pub fn larger() -> Picture {
+    let slots = (1..=48).map(|slot| {
+        let state = match slot {
+            24 => State::Freed,
+            47 | 48 => State::Recoverable,
+            _ => State::Held,
+        };
+        Slot { state, near: slot <= 32 }
+    });
+    let endpoints = (1..=18u16)
+        .map(|endpoint| Endpoint { weight: endpoint * 370 % 1000 + 5, protected: endpoint % 6 == 1 });
+    let lines = (1..=24u8).map(|slot| (if slot % 8 == 1 { 0 } else { slot - 1 }, slot));
+    let ring = [(4, 12), (12, 20), (20, 4)];
+    let hanging = (1..=24u8).map(|slot| (slot, 24 + slot));
+    let second = (1..=6u8).map(|fourth| ((4 * fourth + 10) % 24 + 1, 24 + 4 * fourth));
+    let serving = (1..=18u8).map(|endpoint| (24 + endpoint, endpoint));
+    let other = (0..=8u8).map(|half| (44 - half, 2 * half + 1));
+    Picture {
+        block_size: 4,
+        near_limit: 30,
+        slots: slots.collect(),
+        endpoints: endpoints.collect(),
+        links: lines.chain(ring).chain(hanging).chain(second).collect(),
+        serving: serving.chain(other).collect(),
+    }
+}
+
+/// The longest picture that there is: every count at its limit.
+pub fn longest() -> Picture {
+    let size = Size {
+        block_size: MAX_SLOTS / MAX_BLOCKS,
+        slots: MAX_SLOTS,
+        endpoints: MAX_ENDPOINTS,
+        links: MAX_LINKS,
+        serving: MAX_LINKS,
+    };
+    dense_held(&mut Random::new(1), size)
+}
+
+/// The samples that are small enough to try every bit of: the examples and the larger network.
+pub fn small() -> Vec<Picture> {
+    all().into_iter().map(|(_, picture)| picture).chain([larger()]).collect()
+}
+
+/// The pictures of `examples/` by their file names: the examples, the larger network, the longest
+/// picture, and A with a byte too many.
+pub fn files() -> Vec<(String, Vec<u8>)> {
+    let examples =
+        all().into_iter().map(|(letter, picture)| (letter.to_lowercase().to_string(), write(&picture)));
+    let others = [
+        ("larger".to_string(), write(&larger())),
+        ("longest".to_string(), write(&longest())),
+        ("spare-byte".to_string(), [&A_BYTES[..], &[0]].concat()),
+    ];
+    examples.chain(others).collect()
 }

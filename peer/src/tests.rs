@@ -2,15 +2,16 @@
 
 use crate::choice::evidence_bytes;
 use crate::picture::State;
-use crate::samples::{all, case, case_a, A_BYTES, A_EVIDENCE};
-use crate::{check, choose, evict, fault, free, read, reload, show, weigh, write, Picture};
+use crate::picture::{MAX_BLOCKS, MAX_BLOCK_SIZE, MAX_ENDPOINTS, MAX_LINKS, MAX_SLOTS};
+use crate::samples::{all, case, case_a, files, longest, A_BYTES, A_EVIDENCE};
+use crate::{check, choose, evict, fault, free, listing, read, reload, show, weigh, write, Picture};
 
 fn bytes_of(letter: char) -> Vec<u8> {
     write(&case(letter))
 }
 
 pub fn evidence_of(picture: &[u8]) -> Vec<u8> {
-    let mut buffer = vec![0xEE; 30000];
+    let mut buffer = vec![0xEE; evidence_bytes(MAX_SLOTS, MAX_BLOCKS) + 11];
     let length = choose(picture, &mut buffer).expect("an accepted picture");
     assert!(buffer[length..].iter().all(|byte| *byte == 0xEE));
     buffer.truncate(length);
@@ -37,6 +38,74 @@ fn case_a_has_the_printed_evidence() {
     assert_eq!(check(&A_BYTES, &A_EVIDENCE), Ok(()));
     assert_eq!(weigh(&A_BYTES, 0), Ok((42, 30, 1)));
     assert_eq!(weigh(&A_BYTES, 1), Ok((42, 12, 0)));
+}
+
+#[test]
+fn case_a_has_the_printed_listing() {
+    let lines =
+        ["served 42", "block 0 lost 30 mark 1", "block 1 lost 12 mark 0", "choose 1 lost 12", ""];
+    assert_eq!(listing(&A_BYTES), lines.join("\n"));
+    assert_eq!(listing(&bytes_of('G')), "served 0\nchoose none\n");
+    assert_eq!(listing(&[]), "refused 1\n");
+}
+
+fn file(path: &str) -> Vec<u8> {
+    let path = format!("{}/../{path}", env!("CARGO_MANIFEST_DIR"));
+    std::fs::read(&path).unwrap_or_else(|error| panic!("{path}: {error}"))
+}
+
+/// The files that the program and the C example are run on are the samples, with their listings.
+#[test]
+fn the_sample_files_are_the_samples() {
+    for (name, picture) in files() {
+        assert!(file(&format!("examples/{name}.picture")) == picture, "{name}.picture");
+        assert_eq!(file(&format!("examples/{name}.listing")), listing(&picture).into_bytes(), "{name}");
+    }
+}
+
+/// The header for C has the limits and the numbers that this implementation has.
+#[test]
+fn the_header_has_the_numbers() {
+    let header = String::from_utf8(file("include/blockplan.h")).expect("text");
+    let words: Vec<&str> = header.split_whitespace().filter(|word| *word != "=").collect();
+    let number = |name: &str| {
+        let value = |pair: &[&str]| pair[1].trim_end_matches(',').parse::<usize>().ok();
+        let named = words.windows(2).filter(|pair| pair[0] == name);
+        named.filter_map(value).next().unwrap_or_else(|| panic!("{name} has no number"))
+    };
+    let sizes = [
+        ("BLOCK_SIZE_MAX", MAX_BLOCK_SIZE),
+        ("SLOTS_MAX", MAX_SLOTS),
+        ("BLOCKS_MAX", MAX_BLOCKS),
+        ("ENDPOINTS_MAX", MAX_ENDPOINTS),
+        ("LINKS_MAX", MAX_LINKS),
+        ("PICTURE_MAX", write(&longest()).len()),
+        ("EVIDENCE_MAX", evidence_bytes(MAX_SLOTS, MAX_BLOCKS)),
+    ];
+    for (name, value) in sizes {
+        assert_eq!(number(&format!("BLOCKPLAN_{name}")), value, "{name}");
+    }
+    let refusals = [
+        ("SHORT", fault::SHORT),
+        ("EDITION", fault::EDITION),
+        ("BLOCKS", fault::BLOCKS),
+        ("COUNTS", fault::COUNTS),
+        ("STATE", fault::STATE),
+        ("LINK", fault::LINK),
+        ("FILL", fault::FILL),
+        ("NO_BLOCK", fault::BLOCK),
+        ("BUFFER", fault::BUFFER),
+        ("PROTECTED", fault::PROTECTED),
+        ("NO_CHANGE", fault::NOTHING),
+        ("NEAR", fault::NEAR_LIMIT),
+        ("FORM", fault::SHAPE),
+        ("FOREST", fault::FOREST),
+        ("WEIGHT", fault::SUM),
+        ("VERDICT", fault::VERDICT),
+    ];
+    for (name, value) in refusals {
+        assert_eq!(number(&format!("BLOCKPLAN_REFUSED_{name}")), usize::from(value), "{name}");
+    }
 }
 
 #[test]

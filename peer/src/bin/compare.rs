@@ -1,9 +1,8 @@
 //! Calls the peer and the archive on the same inputs and stops at the first difference.
 //!
-//! `compare [SEED] [COUNT]`: the seed of the random inputs, and how many random networks the groups
-//! are built from.
+//! `compare [SEED] [COUNT]`: the seed of the random inputs, and a scale for how many there are of each
+//! kind.
 
-mod archive;
 mod groups;
 
 use std::env;

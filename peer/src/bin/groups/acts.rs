@@ -11,7 +11,7 @@ use super::{choose_and_check, no_blocks};
 /// Every block reloaded with the near limit just under, at and just over what is then held.
 pub fn near_limits(comparison: &mut Comparison, random: &mut Random, count: usize) {
     for round in 0..2 * count {
-        let size = if round.is_multiple_of(32) { Size::any(random) } else { Size::small(random) };
+        let size = if round % 32 == 0 { Size::any(random) } else { Size::small(random) };
         let shape = *random.pick(&SHAPES);
         let mut picture = network(random, shape, size);
         for block in 0..picture.block_count() {
@@ -37,7 +37,7 @@ fn held_near_after_reload(picture: &Picture, block: usize) -> usize {
 /// Many acts on one picture, with choose and check in between.
 pub fn sequences(comparison: &mut Comparison, random: &mut Random, count: usize) {
     for round in 0..count.div_ceil(2) {
-        let size = if round.is_multiple_of(16) { Size::any(random) } else { Size::small(random) };
+        let size = if round % 16 == 0 { Size::any(random) } else { Size::small(random) };
         let shape = *random.pick(&SHAPES);
         let mut picture = network(random, shape, size);
         unprotect_some(random, &mut picture);

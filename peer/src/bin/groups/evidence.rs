@@ -63,7 +63,7 @@ fn values(random: &mut Random, old: u32, slots: usize) -> Vec<u32> {
 
 /// Each byte of the samples' evidence with each value, each wider field with some, every truncation.
 pub fn of_samples(comparison: &mut Comparison, random: &mut Random, _: usize) {
-    for (_, sample) in samples::all() {
+    for sample in samples::small() {
         let picture = write(&sample);
         let evidence = canonical(&picture).expect("the samples are accepted");
         for place in 0..evidence.len() {
@@ -86,10 +86,10 @@ pub fn of_samples(comparison: &mut Comparison, random: &mut Random, _: usize) {
 pub fn fields(comparison: &mut Comparison, random: &mut Random, count: usize) {
     for round in 0..count.div_ceil(2) {
         let shape = *random.pick(&SHAPES);
-        let size = if round.is_multiple_of(8) { Size::any(random) } else { Size::small(random) };
+        let size = if round % 8 == 0 { Size::any(random) } else { Size::small(random) };
         let picture = network(random, shape, size);
         let evidence = canonical(&write(&picture)).expect("networks are accepted");
-        if round.is_multiple_of(8) {
+        if round % 8 == 0 {
             random_fields(comparison, random, &picture, &evidence, 30);
             continue;
         }
@@ -176,7 +176,7 @@ pub fn strangers(comparison: &mut Comparison, random: &mut Random, count: usize)
     let mut last = write(&samples::case_a());
     for round in 0..2 * count {
         let shape = *random.pick(&SHAPES);
-        let size = if round.is_multiple_of(32) { Size::any(random) } else { Size::small(random) };
+        let size = if round % 32 == 0 { Size::any(random) } else { Size::small(random) };
         let picture = network(random, shape, size);
         let bytes = write(&picture);
         let evidence = canonical(&bytes).expect("networks are accepted");
@@ -200,7 +200,7 @@ fn other_lengths(
     slots: usize,
 ) {
     for length in [0, 1, 8, random.below(evidence.len()), evidence.len() - 1] {
-        comparison.check(picture, &evidence[..length.min(evidence.len())]);
+        comparison.check(picture, &evidence[..length]);
     }
     for spare in [1, section_bytes(slots), random.between(1, 600)] {
         let mut longer = evidence.to_vec();

@@ -13,7 +13,7 @@ use super::harness::Comparison;
 pub fn foreign(comparison: &mut Comparison, random: &mut Random, count: usize) {
     for round in 0..4 * count {
         let shape = *random.pick(&SHAPES);
-        let size = if round.is_multiple_of(32) { Size::any(random) } else { Size::small(random) };
+        let size = if round % 32 == 0 { Size::any(random) } else { Size::small(random) };
         let picture = network(random, shape, size);
         for growth in GROWTHS {
             let evidence = foreign::evidence(random, &picture, growth);

@@ -5,7 +5,7 @@ use std::ops::Range;
 use std::process::exit;
 
 use super::watch::{hexadecimal, install, watched, Call};
-use crate::archive;
+use peer::archive;
 
 /// Guard bytes before and behind each buffer.
 const GUARD: usize = 256;

@@ -10,10 +10,12 @@ mod raw;
 mod watch;
 
 use harness::{Comparison, ACTS};
+use peer::choice::evidence_bytes;
+use peer::picture::{MAX_BLOCKS, MAX_SLOTS};
 use peer::random::Random;
 
 /// Longer than any evidence.
-const ROOM: usize = 29_600;
+const ROOM: usize = evidence_bytes(MAX_SLOTS, MAX_BLOCKS) + 11;
 
 type Group = fn(&mut Comparison, &mut Random, usize);
 
@@ -66,8 +68,7 @@ fn choose_and_check(comparison: &mut Comparison, random: &mut Random, picture: &
                 comparison.choose(picture, room);
             }
             for room in [length, length + random.between(1, 300)] {
-                let answer = comparison.choose(picture, room);
-                comparison.expect("choose", answer, length as i32);
+                comparison.choose(picture, room);
             }
             let answer = comparison.check(picture, &evidence);
             comparison.expect("check of the canonical evidence", answer, 0);

@@ -1,6 +1,6 @@
 //! Random networks of each shape, put through every call.
 
-use peer::networks::{network, Shape, Size, SHAPES};
+use peer::networks::{network, repeat_links, Shape, Size, SHAPES};
 use peer::picture::Picture;
 use peer::random::Random;
 use peer::write;
@@ -51,11 +51,12 @@ pub fn layers(comparison: &mut Comparison, random: &mut Random, count: usize) {
     of_shape(comparison, random, count, Shape::Layers);
 }
 
-/// Networks with every count at its limit.
+/// Networks at the limits: shapes with fewer links name theirs again.
 pub fn full(comparison: &mut Comparison, random: &mut Random, count: usize) {
     for round in 0..count.div_ceil(32) {
         let size = Size::full(random);
-        let picture = network(random, SHAPES[round % SHAPES.len()], size);
+        let mut picture = network(random, SHAPES[round % SHAPES.len()], size);
+        repeat_links(random, &mut picture);
         large(comparison, random, &picture, round);
     }
 }
@@ -71,7 +72,7 @@ fn of_shape(comparison: &mut Comparison, random: &mut Random, count: usize, shap
 /// Every call; every block in some of the networks, in the others a few.
 fn large(comparison: &mut Comparison, random: &mut Random, picture: &Picture, round: usize) {
     let bytes = write(picture);
-    if round.is_multiple_of(8) {
+    if round % 8 == 0 {
         every_call(comparison, random, &bytes);
         return;
     }

@@ -1,5 +1,8 @@
-//! The other implementation's archive behind safe functions. Each answers what the C call answers:
+//! The other implementation's archive behind safe functions, for the feature `archive` only. Each answers what the C call answers:
 //! 0 or a length, or minus the number of the refusal.
+
+// The one module of the library that calls foreign code.
+#![allow(unsafe_code)]
 
 mod calls {
     extern "C" {

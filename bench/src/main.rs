@@ -1,8 +1,8 @@
 //! Times of the archive and of the peer in one run, their growth, and the archive's peak stack.
 //!
 //! `bench [REPETITIONS]`: of how many measurements each time is the median.
+//! `bench stack`: the peak stack alone; ends with status 1 where it is over the limit.
 
-mod archive;
 mod stack;
 
 use std::env;
@@ -10,8 +10,10 @@ use std::hint::black_box;
 use std::process::exit;
 use std::time::{Duration, Instant};
 
+use peer::archive;
+use peer::choice::evidence_bytes;
 use peer::networks::{dense_held, hold_all, long_chain, Size};
-use peer::picture::{Picture, State};
+use peer::picture::{Picture, State, MAX_BLOCKS, MAX_SLOTS};
 use peer::random::Random;
 use peer::{samples, write};
 
@@ -19,6 +21,8 @@ const DEFAULT_REPETITIONS: usize = 15;
 /// One measurement repeats its call until this is over, so that the clock's grain does not count.
 const LEAST_TIME: Duration = Duration::from_millis(2);
 const SEED: u64 = 7;
+/// What the header for C promises, `BLOCKPLAN_STACK`.
+const STACK_LIMIT: usize = 65_536;
 
 /// A picture to measure on, with its evidence.
 struct Case {
@@ -29,7 +33,7 @@ struct Case {
 impl Case {
     fn of(picture: &Picture) -> Case {
         let picture = write(picture);
-        let mut evidence = vec![0; 29_600];
+        let mut evidence = vec![0; evidence_bytes(MAX_SLOTS, MAX_BLOCKS)];
         let length = peer::choose(&picture, &mut evidence).expect("the cases are accepted");
         evidence.truncate(length);
         let case = Case { picture, evidence };
@@ -90,7 +94,7 @@ fn medians<A, P>(
     let mut archive_times = Vec::with_capacity(repetitions);
     let mut peer_times = Vec::with_capacity(repetitions);
     for repetition in 0..repetitions {
-        if repetition.is_multiple_of(2) {
+        if repetition % 2 == 0 {
             archive_times.push(time(&mut archive, archive_batch));
             peer_times.push(time(&mut peer, peer_batch));
         } else {
@@ -238,31 +242,38 @@ fn peaks(picture: &Picture) -> [usize; 5] {
     ]
 }
 
-fn print_stack() {
-    println!();
+/// Prints the peaks and gives the largest.
+fn print_stack() -> usize {
     println!("peak stack of the archive's calls in bytes (upper estimates: a page of 4096 is added)");
     println!(
         "{:<36}{:>10}{:>10}{:>10}{:>10}{:>10}",
         "case", "choose", "check", "evict", "reload", "free"
     );
+    let mut most = 0;
     for (name, picture) in cases() {
-        let [choose, check, evict, reload, free] = peaks(&picture);
+        let peaks = peaks(&picture);
+        let [choose, check, evict, reload, free] = peaks;
         println!("{name:<36}{choose:>10}{check:>10}{evict:>10}{reload:>10}{free:>10}");
+        most = peaks.into_iter().fold(most, usize::max);
     }
+    most
 }
 
 fn main() {
     let arguments: Vec<String> = env::args().skip(1).collect();
     let repetitions = match arguments.as_slice() {
-        [] => Some(DEFAULT_REPETITIONS),
-        [text] => text.parse().ok().filter(|repetitions| *repetitions > 0),
-        _ => None,
-    };
-    let Some(repetitions) = repetitions else {
-        eprintln!("usage: bench [REPETITIONS], at least 1");
-        exit(2)
+        [] => DEFAULT_REPETITIONS,
+        [word] if word == "stack" => exit(i32::from(print_stack() > STACK_LIMIT)),
+        [text] => text.parse().ok().filter(|repetitions| *repetitions > 0).unwrap_or_else(|| usage()),
+        _ => usage(),
     };
     print_times(repetitions);
     print_growth(repetitions);
+    println!();
     print_stack();
+}
+
+fn usage() -> ! {
+    eprintln!("usage: bench [REPETITIONS, at least 1], or bench stack");
+    exit(2)
 }
