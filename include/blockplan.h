@@ -1,0 +1,125 @@
+/*
+ * blockplan: which flash block of a map relay to give up, with evidence that anyone can check.
+ *
+ * A picture is the state of one relay's network as bytes. Evidence says which block was chosen and why. The library is proved: on every input
+ * each call ends, reads and writes inside its buffers only, and gives the answer that the scope document ("01" below) fixes. Link with
+ * libblockplan_c.a (x86-64, System V calls), which `rt staticlib blockplan_c` makes; besides the five calls it names only memcpy and memset.
+ *
+ * WORDS. Location 0 is the origin (01: the office); locations 1 to n are slots, in blocks of so many slots each, counted from 0. Links lead from
+ * location to location, service links (01: serving links) from a location to an endpoint (01: a cab). A slot is held, recoverable or freed; near
+ * slots lie in the small fast store. A chain leads from the origin over links through held slots; an endpoint is served if a chain ends at a location
+ * with a service link to it. A block cuts the endpoints that are served, and would not be without its slots.
+ *
+ * ANSWERS. 0 or a length is success. A refusal is minus one of the numbers below, that of the first fault in 01's order; then no byte of
+ * any buffer has changed.
+ *
+ * WHAT A CALLER OWES, and no call can test:
+ * - Each pointer points to as many bytes as the length says, also where the length is 0: a null pointer is never allowed. Any alignment will do.
+ * - The two buffers of a call do not overlap.
+ * - One call at a time on a buffer: while a call runs, nothing else (thread, interrupt, DMA) touches a buffer that it writes, or writes one that
+ *   it reads.
+ * Nothing is asked of what the bytes hold, of how many they are, or of a block number. Hand over all bytes that came, or at least one more than
+ * BLOCKPLAN_PICTURE_MAX: a picture that is cut off there could pass for a whole one.
+ *
+ * MEMORY. Nothing is allocated and nothing is kept between calls. A call takes at most BLOCKPLAN_STACK bytes of stack.
+ */
+#ifndef BLOCKPLAN_H
+#define BLOCKPLAN_H
+
+#include <stddef.h>
+#include <stdint.h>
+
+#ifdef __cplusplus
+extern "C" {
+#endif
+
+/*
+ * THE PICTURE. Fields are packed most significant bit first, without gaps:
+ *
+ *   header          edition 4 (value 1), block size 4, slots n 8, near limit 8, endpoints D 8, links L 12, service links S 12
+ *   n slots         state 2 (0 held, 1 recoverable, 2 freed), near 1
+ *   D endpoints     weight 16, protected 1
+ *   L links         from 8, to 8 (locations, 0 to n)
+ *   S service links location 8 (0 to n), endpoint 8 (1 to D)
+ *   zero bits up to the byte, then the end
+ *
+ * n is a multiple of the block size. The limits:
+ */
+#define BLOCKPLAN_BLOCK_SIZE_MAX 8
+#define BLOCKPLAN_SLOTS_MAX 240
+#define BLOCKPLAN_BLOCKS_MAX 60
+#define BLOCKPLAN_ENDPOINTS_MAX 200
+#define BLOCKPLAN_LINKS_MAX 2000 /* links, and as many service links */
+#define BLOCKPLAN_PICTURE_MAX 8522
+
+/*
+ * EVIDENCE, all of it whole bytes but for the first:
+ *
+ *   head            edition 4 (value 1), verdict 4 (1 chosen, 0 none), block 8, candidates C 8, served weight 24, loss 24
+ *   forest          n times parent 8, depth 8: how each slot is reached; 0 and 0 where it is not
+ *   C sections      block 8, loss 24, mark 8 (1 where it cuts a protected endpoint), and the forest without that block
+ *
+ * For "none", block and loss are 0. A buffer of BLOCKPLAN_EVIDENCE_MAX bytes is long enough for every picture.
+ */
+#define BLOCKPLAN_EVIDENCE_BYTES(slots, candidates) (9 + 2 * (slots) + (candidates) * (5 + 2 * (slots)))
+#define BLOCKPLAN_EVIDENCE_MAX 29589
+
+/* The fields of the head, from a pointer to the first byte of evidence that choose wrote or check passed: there are nine bytes at least. */
+#define BLOCKPLAN_VERDICT(evidence) ((unsigned)(evidence)[0] & 15u)
+#define BLOCKPLAN_BLOCK(evidence) ((uint32_t)(evidence)[1])
+#define BLOCKPLAN_CANDIDATES(evidence) ((uint32_t)(evidence)[2])
+#define BLOCKPLAN_SERVED(evidence) BLOCKPLAN_24_BITS((evidence) + 3)
+#define BLOCKPLAN_LOSS(evidence) BLOCKPLAN_24_BITS((evidence) + 6)
+#define BLOCKPLAN_24_BITS(at) ((uint32_t)(at)[0] << 16 | (uint32_t)(at)[1] << 8 | (uint32_t)(at)[2])
+
+/* The most stack that a call takes, in bytes. */
+#define BLOCKPLAN_STACK 65536
+
+/* The numbers of refusals. Every call judges the picture first (1 to 7). */
+enum blockplan_refusal {
+    BLOCKPLAN_REFUSED_SHORT = 1,      /* the picture is shorter than a header, or than its header says */
+    BLOCKPLAN_REFUSED_EDITION = 2,    /* its edition is not 1 */
+    BLOCKPLAN_REFUSED_BLOCKS = 3,     /* block size, slots or number of blocks out of range, or slots not a multiple of the block size */
+    BLOCKPLAN_REFUSED_COUNTS = 4,     /* number of endpoints, links or service links out of range */
+    BLOCKPLAN_REFUSED_STATE = 5,      /* a slot in state 3 */
+    BLOCKPLAN_REFUSED_LINK = 6,       /* a link or service link names what is not there */
+    BLOCKPLAN_REFUSED_FILL = 7,       /* fill bits not zero, or bytes left */
+    BLOCKPLAN_REFUSED_NO_BLOCK = 8,   /* the acts: no block of this number */
+    BLOCKPLAN_REFUSED_BUFFER = 9,     /* choose: the buffer is under the evidence's length */
+    BLOCKPLAN_REFUSED_PROTECTED = 10, /* evict, free: a protected endpoint would be cut */
+    BLOCKPLAN_REFUSED_NO_CHANGE = 11, /* the acts: no slot would change */
+    BLOCKPLAN_REFUSED_NEAR = 12,      /* reload: it adds a held near slot, and more than the near limit would be held */
+    BLOCKPLAN_REFUSED_FORM = 13,      /* check: length, edition or candidate count wrong, a section of another block, a verdict or mark over 1 */
+    BLOCKPLAN_REFUSED_FOREST = 14,    /* check: a forest breaks its rules */
+    BLOCKPLAN_REFUSED_WEIGHT = 15,    /* check: served weight, a loss or a mark is wrong */
+    BLOCKPLAN_REFUSED_VERDICT = 16    /* check: verdict, block or loss is not what the sections imply */
+};
+
+/*
+ * Chooses the block to give up: of the blocks with a held near slot that cut no protected endpoint the one that loses least weight, the lowest
+ * number among equals, or none. Writes the evidence for it into the buffer and returns its length; the bytes beyond stay as they were. Verdict,
+ * block and loss are in its head (the macros above). Refuses with 1 to 7, then 9.
+ */
+int32_t blockplan_choose(const uint8_t *picture, size_t picture_length, uint8_t *evidence, size_t evidence_length);
+
+/*
+ * Checks evidence, from whatever maker, against a picture. Returns 0 where it keeps all rules of 01. Any other evidence that passes for the
+ * same picture has the same verdict and the same loss. Refuses with 1 to 7, then 13 to 16.
+ */
+int32_t blockplan_check(const uint8_t *picture, size_t picture_length, const uint8_t *evidence, size_t evidence_length);
+
+/*
+ * The acts change the states of one block's slots in the lent picture, and no other bit. Each returns 0 when it is done. Refuses with 1 to 7,
+ * then 8, 11, and then evict and free with 10, reload with 12.
+ *
+ * evict: held slots become recoverable. reload: recoverable slots become held. free: held and recoverable slots become freed, for good.
+ */
+int32_t blockplan_evict(uint8_t *picture, size_t picture_length, uint32_t block);
+int32_t blockplan_reload(uint8_t *picture, size_t picture_length, uint32_t block);
+int32_t blockplan_free(uint8_t *picture, size_t picture_length, uint32_t block);
+
+#ifdef __cplusplus
+}
+#endif
+
+#endif
