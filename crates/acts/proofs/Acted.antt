@@ -16,7 +16,7 @@ use Rattle.bits.specs.Bits.{bitAt, fieldAt}
 use Rattle.bits.proofs.Reading.{fieldAt-lt}
 use Rattle.lists.specs.Lists.{range, item, sum}
 use Rattle.picture.specs.declared.Header.{Header}
-use Rattle.picture.specs.Layout.{Edition, edition1, headerWidths, slotWidths, endpointWidths, linkWidths, serviceWidths, fieldIn, slotsAt, endpointsAt, linksAt, servicesAt, endAt}
+use Rattle.picture.specs.Layout.{Edition, edition1, headerWidths, slotWidths, endpointWidths, linkWidths, serviceLinkWidths, fieldIn, slotsAt, endpointsAt, linksAt, serviceLinksAt, endAt}
 use Rattle.picture.specs.Picture.{Picture, Slot, headerIn, headerOf, slotAt, endpointAt, linkAt, rows, pictureWith, pictureOf, slotOf}
 use Rattle.picture.specs.Faults.{pictureFault}
 use Rattle.picture.specs.Rules.{Kept}
@@ -84,7 +84,7 @@ module _ (a : Act) (bs : List ℕ) (b : ℕ) (ok : pictureFault bs ≡ 0) (there
 
   -- the states lie inside the bytes
   room : stateAt edition1 (b * size + size) ≤ length bs * 8
-  unfolding stateAt endAt servicesAt linksAt endpointsAt slotWidths sum
+  unfolding stateAt endAt serviceLinksAt linksAt endpointsAt slotWidths sum
   room = omega (arith, fits, rounded h .room, accepted-kept bs ok .long)
 
   pub acted-length : length (doneBytes a bs b) ≡ length bs
@@ -218,12 +218,12 @@ module _ (a : Act) (bs : List ℕ) (b : ℕ) (ok : pictureFault bs ≡ 0) (there
   unfolding linksAt
   links-behind = omega arith
 
-  services-behind : endpointsAt edition1 h ≤ servicesAt edition1 h
-  unfolding servicesAt linksAt
+  services-behind : endpointsAt edition1 h ≤ serviceLinksAt edition1 h
+  unfolding serviceLinksAt linksAt
   services-behind = omega arith
 
   end-behind : endpointsAt edition1 h ≤ endAt edition1 h
-  unfolding endAt servicesAt linksAt
+  unfolding endAt serviceLinksAt linksAt
   end-behind = omega arith
 
   -- the new bytes say what the act makes of the picture
@@ -239,8 +239,8 @@ module _ (a : Act) (bs : List ℕ) (b : ℕ) (ok : pictureFault bs ≡ 0) (there
         endpoints = rows-same (endpointAt done) (endpointAt bs) (endpointsAt edition1 h) (sum endpointWidths) (h .endpoints) endpoint-same i;
         links = rows-same (linkAt (linkWidths edition1) done) (linkAt (linkWidths edition1) bs) (linksAt edition1 h) (sum (linkWidths edition1)) (h .links)
             (λ x l. link-same (linkWidths edition1) x (le-trans links-behind l)) i;
-        services = rows-same (linkAt (serviceWidths edition1) done) (linkAt (serviceWidths edition1) bs) (servicesAt edition1 h) (sum (serviceWidths edition1)) (h .«service_links»)
-            (λ x l. link-same (serviceWidths edition1) x (le-trans services-behind l)) i;
+        serviceLinks = rows-same (linkAt (serviceLinkWidths edition1) done) (linkAt (serviceLinkWidths edition1) bs) (serviceLinksAt edition1 h) (sum (serviceLinkWidths edition1)) (h .«service_links»)
+            (λ x l. link-same (serviceLinkWidths edition1) x (le-trans services-behind l)) i;
       })
 
   -- and are accepted

@@ -7,7 +7,7 @@ use Prim.Native.Nat.{ℕ, zero, suc, _≤_, _<_}
 use native.Mathlib.Omega.{arith}
 use native.Mathlib.Decide.{decLt}
 use borrow.Author.Tests.{le-leb, lt-leb}
-use Rattle.lists.specs.Lists.{on, first, told}
+use Rattle.lists.specs.Lists.{on, first, outcome}
 use Rattle.lists.proofs.Faults.{stop-at, skip-at}
 use Rattle.picture.specs.Picture.{pictureOf}
 use Rattle.picture.specs.Faults.{pictureFault}
@@ -18,7 +18,7 @@ use Rattle.acts.specs.declared.Acting.the-variants.{Done, Refused}
 use Rattle.acts.proofs.Judged.{done-bytes as done-writes, refused-bytes as refused-stays}
 use Rattle.acts.specs.Acts.{changes, cutFault, nearFault, actFault, doneBytes, actBytes, actingOf, acting, actingNumbers}
 
--- the last number of the list is what is told
+-- the last number of the list is what is outcome
 last-at : {z y : ℕ} → z ≡ y → z ≡ first (y ∷ [])
 last-at {z} {y} e = e ∙ go y
   where
@@ -91,10 +91,10 @@ module _ (a : Act) (bs : List ℕ) (b : ℕ) where
 
 -- ---- the numbers of the answer
 
-pub acting-numbers : (a : Act) (bs : List ℕ) (b : ℕ) → actingNumbers (acting a bs b) ≡ told (actFault a bs b) []
-unfolding actingNumbers acting actingOf told
+pub acting-numbers : (a : Act) (bs : List ℕ) (b : ℕ) → actingNumbers (acting a bs b) ≡ outcome (actFault a bs b) []
+unfolding actingNumbers acting actingOf outcome
 acting-numbers a bs b = go (actFault a bs b)
   where
-    go : (k : ℕ) → actingNumbers (actingOf k) ≡ told k []
+    go : (k : ℕ) → actingNumbers (actingOf k) ≡ outcome k []
     go zero = refl
     go (suc k) = refl

@@ -4,7 +4,7 @@ use mathlib.Core.Bool.{Bool, true, false, not, _&&_}
 use mathlib.Core.List.{List}
 use Prim.Native.Nat.{ℕ, zero, suc, _+_, _*_, _≤_, _<_}
 use native.Mathlib.Nat.{not-suc-le-zero}
-use Rattle.rows.specs.Rows.{slotsMost}
+use Rattle.rows.specs.Rows.{slotsMax}
 use borrow.Author.Tests.{le-leb, lt-leb}
 use lib.Dec.{eqb, leb}
 use lib.ListN.{length}
@@ -12,7 +12,7 @@ use Rattle.lists.specs.Lists.{range, any}
 use Rattle.picture.specs.declared.Header.{Header}
 use Rattle.picture.specs.Layout.{edition1, sizeOf}
 use Rattle.picture.specs.Picture.{Picture, pictureOf, pictureWith, slotOf}
-use Rattle.picture.specs.Answers.{Read}
+use Rattle.picture.specs.Inner.{Read}
 use Rattle.picture.proofs.Accepted.{accepted-kept}
 use Rattle.picture.proofs.Facts.{read-picture, read-sizes}
 use Rattle.network.specs.Words.{blockCount, inBlock, isHeld}
@@ -24,7 +24,7 @@ use Rattle.acts.specs.Acts.{after, blockSlots, changes, recoverableNear}
 -- the block's last slot is at most n, which is a small number
 pub record Within (h : Header) (b : ℕ) : Type 0 where
   pub last : b * h .«block_size» + h .«block_size» ≤ h .slots
-  pub most : h .slots ≤ slotsMost
+  pub most : h .slots ≤ slotsMax
 
 -- the act changes slot v
 abbrev pub changed : Act → Picture → ℕ → Bool

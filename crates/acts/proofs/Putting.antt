@@ -10,7 +10,7 @@ use Rattle.lists.specs.Lists.{range, sum}
 use Rattle.picture.specs.declared.Header.{Header}
 use Rattle.picture.specs.Layout.{Edition, edition1, slotWidths, slotsAt, endpointsAt}
 use Rattle.picture.specs.Picture.{Slot, Picture, pictureOf, pictureWith, slotAt, slotOf}
-use Rattle.picture.specs.Answers.{Read}
+use Rattle.picture.specs.Inner.{Read}
 use Rattle.picture.proofs.Starts.{field-first, slot-row, ordered, rounded}
 use Rattle.picture.proofs.Facts.{read-picture, read-limited}
 use Rattle.acts.specs.declared.Act.{Act}

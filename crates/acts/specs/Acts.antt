@@ -89,7 +89,7 @@ actOn a p b =
       slots = map (slotAfter a p b) (range 1 (slotCount p));
       endpoints = p .endpoints;
       links = p .links;
-      services = p .services;
+      serviceLinks = p .serviceLinks;
     }
 
 -- 0 is done; any other number is a refusal

@@ -5,7 +5,7 @@ ghost use Prim.Native.Nat.{_≤_, _<_};
 ghost use lib.Dec.{eqb};
 ghost use Rattle.lists.specs.Lists.{range, on, any};
 ghost use Rattle.picture.specs.Picture.{pictureOf, slotOf};
-ghost use Rattle.picture.specs.Answers.{Read};
+ghost use Rattle.picture.specs.Inner.{Read};
 ghost use Rattle.network.specs.Words.{slotCount, blockCount};
 ghost use Rattle.network.specs.Tests.{weighed};
 ghost use Rattle.network.specs.Rows.{isNearHeld};

@@ -4,7 +4,7 @@ ghost use Prim.Native.Nat.{_≤_};
 ghost use lib.IntN.{pos, negℤ};
 ghost use mir.Syntax.{w32};
 ghost use mir.Val.{SFits};
-ghost use Rattle.evidence.specs.Layout.{evidenceMost};
+ghost use Rattle.evidence.specs.Layout.{evidenceMax};
 ghost use Rattle.evidence.specs.Calls.{chosenBytes};
 ghost use Rattle.choose.specs.Answers.{choosing};
 ghost use Rattle.checker.specs.Answers.{checking};
@@ -25,7 +25,7 @@ fn refusal(number: u8) -> i32
 
 // A length of evidence.
 fn length_told(length: usize) -> i32
-    requires { ⌜ length ≤ evidenceMost ⌝ }
+    requires { ⌜ length ≤ evidenceMax ⌝ }
     ensures told { λ r. ⌜ r ≡ pos length ⌝ }
     ensures fits { λ r. ⌜ SFits w32 r ⌝ }
 {

@@ -8,7 +8,7 @@ use native.Mathlib.Omega.{arith}
 use lib.Dec.{T, eqb, eqb→eq}
 use lib.ListN.{length, length-map}
 use lib.Seq.{ext-getD}
-use Rattle.lists.specs.Lists.{range, on, first, told}
+use Rattle.lists.specs.Lists.{range, on, first, outcome}
 use Rattle.lists.proofs.Tests.{and-T}
 use Rattle.lists.proofs.Ranges.{length-range}
 use Rattle.lists.proofs.Faults.{on-zero, first-zero, stop-at, skip-at, end-at, first-map-none}
@@ -67,7 +67,7 @@ module _ (bs ev : List ℕ) where
   check-parts =
       let p = pictureOf bs in
       let a : ℕ = on (not (forestRight p (isHeld p) (firstForest edition1 (slotCount p) ev))) 14 in
-      let b : ℕ = on (not (eqb (headIn ev 4) (servedWeight p))) 15 in
+      let b : ℕ = on (not (eqb (headIn ev .served) (servedWeight p))) 15 in
       let s : List ℕ = map (sectionFault edition1 p ev (weighings p)) (range 0 (length (candidates p))) in
       let same : map (partFault bs ev) (range 1 (length (candidates p))) ≡ s = map-shift (partFault bs ev) (sectionFault edition1 p ev (weighings p)) (λ i. refl) 0 (length (candidates p)) in
       let m : List ℕ = map (partFault bs ev) (range 1 (length (candidates p))) in
@@ -107,10 +107,10 @@ module _ (bs ev : List ℕ) where
             let s : T (statedRight bs ev (suc i)) = twice (statedRight bs ev (suc i)) (on-zero (not (statedRight bs ev (suc i))) 14 (first-zero _ (sym (part-fault bs ev (suc i) k) ∙ z) 1)) in
             let w = weighed (pictureOf bs) (blockAt bs ev i) in
             let n = slotCount (pictureOf bs) in
-            let r = and-T (eqb (sectionIn edition1 n ev i 1) (w .loss)) (eqb (sectionIn edition1 n ev i 2) (w .mark)) s in
+            let r = and-T (eqb (sectionIn edition1 n ev i .loss) (w .loss)) (eqb (sectionIn edition1 n ev i .mark) (w .mark)) s in
             let b = right-form edition1 (pictureOf bs) ev f .blocks i l ∙ sym (weighed-block (pictureOf bs) (blockAt bs ev i)) in
-            let x = eqb→eq (sectionIn edition1 n ev i 1) (w .loss) (r .0) in
-            let m = eqb→eq (sectionIn edition1 n ev i 2) (w .mark) (r .1) in
+            let x = eqb→eq (sectionIn edition1 n ev i .loss) (w .loss) (r .0) in
+            let m = eqb→eq (sectionIn edition1 n ev i .mark) (w .mark) (r .1) in
             λ j. record { block = b j; loss = x j; mark = m j }
 
         pub stated-weighings : (n count : ℕ) → n ≡ slotCount (pictureOf bs) → count ≡ length (candidates (pictureOf bs)) → stated n ev count ≡ weighings (pictureOf bs)
@@ -146,10 +146,10 @@ told-refused bs ev (suc k) n e = ap checkingOf e
 
 -- ---- the numbers of the answer
 
-pub checking-numbers : (bs ev : List ℕ) → checkingNumbers (checking bs ev) ≡ told (checkFault bs ev) []
-unfolding checkingNumbers checking checkingOf told
+pub checking-numbers : (bs ev : List ℕ) → checkingNumbers (checking bs ev) ≡ outcome (checkFault bs ev) []
+unfolding checkingNumbers checking checkingOf outcome
 checking-numbers bs ev = go (checkFault bs ev)
   where
-    go : (k : ℕ) → checkingNumbers (checkingOf k) ≡ told k []
+    go : (k : ℕ) → checkingNumbers (checkingOf k) ≡ outcome k []
     go zero = refl
     go (suc k) = refl

@@ -12,7 +12,7 @@ use lib.ListN.{length, getD, replicate}
 use Rattle.lists.specs.Lists.{range, all}
 use Rattle.lists.proofs.Tests.{and-T, T-and, T-or-r, is-false}
 use Rattle.rows.specs.Rows.{marked, linkedIn, With, Minus, NoneMarked, Meet}
-use Rattle.graph.specs.Rounds.{Node}
+use Rattle.graph.specs.declared.Node.{Node}
 use Rattle.graph.specs.Kept.{nodeOf}
 use Rattle.graph.specs.Held.{heldIn}
 use Rattle.graph.proofs.Held.{slot-held}

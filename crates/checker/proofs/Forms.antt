@@ -79,8 +79,8 @@ last-first a b c d e = and-comm a (b && (c && (d && e))) ∙ and-assoc b (c && (
 pub form-tested : (p : Picture) (ev : List ℕ) → formTest (slotCount p) ev (candidates p) ≡ formRight edition1 p ev
 unfolding formTest headTest sectionsTest sectionTest formRight
 form-tested p ev =
-    last-first (sectionsTest (slotCount p) ev (candidates p)) (eqb (length ev) (evidenceBytes edition1 (slotCount p) (length (candidates p)))) (eqb (headIn ev 0) 1) (leb (headIn ev 1) 1)
-    (eqb (headIn ev 3) (length (candidates p)))
+    last-first (sectionsTest (slotCount p) ev (candidates p)) (eqb (length ev) (evidenceBytes edition1 (slotCount p) (length (candidates p)))) (eqb (headIn ev .edition) 1) (leb (headIn ev .verdict) 1)
+    (eqb (headIn ev .count) (length (candidates p)))
 
 -- ---- the loop over the blocks
 

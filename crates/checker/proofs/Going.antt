@@ -14,7 +14,7 @@ use Rattle.lists.proofs.Ranges.{length-range}
 use Rattle.lists.proofs.Picks.{getD-range}
 use Rattle.lists.proofs.Faults.{Clean, scan-begun, scan-miss, scan-hit, scan-ended}
 use Rattle.rows.specs.Rows.{marked, linkedIn, With, Minus, Meet, rowWords}
-use Rattle.graph.specs.Rounds.{Node}
+use Rattle.graph.specs.declared.Node.{Node}
 use Rattle.graph.specs.Held.{heldIn}
 use Rattle.picture.specs.Layout.{edition1}
 use Rattle.picture.specs.Picture.{pictureOf}
@@ -41,7 +41,7 @@ pub record Tables (bs ev held : List ℕ) (count n size d : ℕ) (links services
   pub near : List ℕ
   pub slots : SlotRowsOf (pictureOf bs) held near
   pub link-rows : RowsOf (joins (pictureOf bs .links)) links
-  pub service-rows : RowsOf (λ c a. joins (pictureOf bs .services) a c) services
+  pub service-rows : RowsOf (λ c a. joins (pictureOf bs .serviceLinks) a c) services
   pub end-rows : EndpointsOf (pictureOf bs) weights guarded
   pub many : n ≡ slotCount (pictureOf bs)
   pub block-size : size ≡ pictureOf bs .blockSize
@@ -121,7 +121,7 @@ module _ {bs ev held : List ℕ} {count n size d : ℕ} {links services : List (
         reaches = passed-reaches (pictureOf bs) (t .named) (heldAt bs ev k) es len right inner (inner-in (pictureOf bs) (t .named) (heldAt bs ev k) links (t .link-rows) left holds es len slots inner outer w m n (t .many) f)
 
         found : Found bs ev k weight mark
-        found = sums-found bs ev (t .named) services weights guarded d (t .service-rows) (t .end-rows) (t .endpoints) k row inner before after weight mark y z reaches (g .reached) s
+        found = sums-found bs ev (t .named) services weights guarded d (t .service-link-rows) (t .end-rows) (t .endpoints) k row inner before after weight mark y z reaches (g .reached) s
 
         stated : statedTest ev (72 + k * (40 + n * 16)) k weight mark ≡ statedRight bs ev k
         stated = stated-found bs ev n (t .many) k weight mark found

@@ -11,13 +11,13 @@ use lib.Dec.{eqb}
 use lib.ListN.{length}
 use Rattle.lists.specs.Lists.{item, sum}
 use Rattle.bits.proofs.Reading.{fieldAt-lt}
-use Rattle.graph.specs.Rounds.{Node}
+use Rattle.graph.specs.declared.Node.{Node}
 use Rattle.graph.specs.Kept.{nodeOf}
 use Rattle.graph.proofs.Keeping.{node-above}
 use Rattle.picture.specs.Layout.{edition1}
 use Rattle.picture.proofs.Starts.{field-second, length-rows, item-row}
 use Rattle.evidence.specs.Layout.{nodeWidths}
-use Rattle.evidence.specs.Checks.{nodeIn, forestIn, isIn}
+use Rattle.evidence.specs.Checks.{nodeAt, forestIn, isIn}
 use Rattle.checker.specs.Following.{nodeFrom, nodeTest}
 
 -- ---- the nodes
@@ -25,15 +25,15 @@ use Rattle.checker.specs.Following.{nodeFrom, nodeTest}
 module _ (n : ℕ) (ev : List ℕ) (q : ℕ) where
   pub forest-length : length (forestIn edition1 n ev q) ≡ n
   unfolding forestIn
-  forest-length = length-rows (nodeIn edition1 ev) q (sum (nodeWidths edition1)) n
+  forest-length = length-rows (nodeAt edition1 ev) q (sum (nodeWidths edition1)) n
 
   pub node-read : (v : ℕ) → 1 ≤ v → v ≤ n → nodeOf (forestIn edition1 n ev q) v ≡ nodeFrom ev q v
   unfolding forestIn nodeOf nodeFrom
-  node-read v l m = item-row (nodeIn edition1 ev) _ q (sum (nodeWidths edition1)) n v l m
+  node-read v l m = item-row (nodeAt edition1 ev) _ q (sum (nodeWidths edition1)) n v l m
 
 -- a depth is a field of 8 bits
 pub depth-small : (ev : List ℕ) (q v : ℕ) → nodeFrom ev q v .depth < 256
-unfolding nodeFrom nodeIn nodeWidths
+unfolding nodeFrom nodeAt nodeWidths
 depth-small ev q v = rw field-second (fieldAt-lt ev _ 8)
 
 -- ---- what is in a forest

@@ -10,12 +10,13 @@ use lib.ListN.{length, getD}
 use Rattle.bits.specs.Bits.{fieldAt}
 use Rattle.lists.specs.Lists.{on, first, sum}
 use Rattle.lists.proofs.Faults.{stop-at, skip-at, end-at}
-use Rattle.graph.specs.Rounds.{Node}
+use Rattle.graph.specs.declared.Node.{Node}
 use Rattle.graph.specs.Held.{heldIn}
 use Rattle.picture.specs.Layout.{edition1}
 use Rattle.picture.specs.Picture.{Picture, pictureOf}
 use Rattle.network.specs.Words.{slotCount, isHeld, heldWithout}
-use Rattle.network.specs.Tests.{Weighed, weighed, servedWeight, candidates}
+use Rattle.network.specs.declared.Cost.{Cost}
+use Rattle.network.specs.Tests.{weighed, servedWeight, candidates}
 use Rattle.network.specs.Rows.{SlotRowsOf, BlockRow}
 use Rattle.network.proofs.Weights.{weighed-block}
 use Rattle.weigh.proofs.Serving.{left-held}
@@ -34,10 +35,10 @@ section-before n i = omega (arith, suc-mul i (40 + n * 16), section-at n i)
 
 -- ---- what is held in a part, what it states, and its faults
 
-no-weighing : Weighed
+no-weighing : Cost
 no-weighing = record { block = 0; loss = 0; mark = 0 }
 
-pub weighed-at : (p : Picture) (d : Weighed) (l : List ℕ) (i : ℕ) → i < length l → getD (map (weighed p) l) i d ≡ weighed p (getD l i 0)
+pub weighed-at : (p : Picture) (d : Cost) (l : List ℕ) (i : ℕ) → i < length l → getD (map (weighed p) l) i d ≡ weighed p (getD l i 0)
 weighed-at p d [] i h = absurd (not-suc-le-zero h)
 weighed-at p d (b ∷ l) zero h = refl
 weighed-at p d (b ∷ l) (suc i) h = weighed-at p d l i (le-of-suc-le-suc h)
@@ -52,10 +53,10 @@ module _ (bs ev : List ℕ) where
   heldAt (suc i) = heldWithout (pictureOf bs) (blockAt i)
 
   unfoldable pub statedRight : ℕ → Bool
-  statedRight zero = eqb (headIn ev 4) (servedWeight (pictureOf bs))
+  statedRight zero = eqb (headIn ev .served) (servedWeight (pictureOf bs))
   statedRight (suc i) =
-      eqb (sectionIn edition1 (slotCount (pictureOf bs)) ev i 1) (weighed (pictureOf bs) (blockAt i) .loss)
-      && eqb (sectionIn edition1 (slotCount (pictureOf bs)) ev i 2) (weighed (pictureOf bs) (blockAt i) .mark)
+      eqb (sectionIn edition1 (slotCount (pictureOf bs)) ev i .loss) (weighed (pictureOf bs) (blockAt i) .loss)
+      && eqb (sectionIn edition1 (slotCount (pictureOf bs)) ev i .mark) (weighed (pictureOf bs) (blockAt i) .mark)
 
   unfoldable pub forestAt : ℕ → List Node
   forestAt k = forestIn edition1 (slotCount (pictureOf bs)) ev (72 + k * (40 + slotCount (pictureOf bs) * 16))
@@ -73,20 +74,20 @@ module _ (bs ev : List ℕ) where
       → partFault bs ev k ≡ first (on (not (forestRight (pictureOf bs) (heldAt k) (forestAt k))) 14 ∷ on (not (statedRight k)) 15 ∷ [])
   unfolding partFault heldAt statedRight sectionFault weighings no-weighing blockAt
   part-fault zero l =
-      ap (λ (es : List Node). first (on (not (forestRight (pictureOf bs) (isHeld (pictureOf bs)) es)) 14 ∷ on (not (eqb (headIn ev 4) (servedWeight (pictureOf bs)))) 15 ∷ [])) first-forest
+      ap (λ (es : List Node). first (on (not (forestRight (pictureOf bs) (isHeld (pictureOf bs)) es)) 14 ∷ on (not (eqb (headIn ev .served) (servedWeight (pictureOf bs)))) 15 ∷ [])) first-forest
   part-fault (suc i) l =
       ap₂
-      (λ (w : Weighed) (es : List Node).
+      (λ (w : Cost) (es : List Node).
       first
       (on (not (forestRight (pictureOf bs) (heldWithout (pictureOf bs) (w .block)) es)) 14
-      ∷ on (not (eqb (sectionIn edition1 (slotCount (pictureOf bs)) ev i 1) (w .loss) && eqb (sectionIn edition1 (slotCount (pictureOf bs)) ev i 2) (w .mark))) 15
+      ∷ on (not (eqb (sectionIn edition1 (slotCount (pictureOf bs)) ev i .loss) (w .loss) && eqb (sectionIn edition1 (slotCount (pictureOf bs)) ev i .mark) (w .mark))) 15
       ∷ []))
       (weighed-at (pictureOf bs) no-weighing (candidates (pictureOf bs)) i l) (section-forest i)
       ∙ ap
       (λ (b : ℕ).
       first
       (on (not (forestRight (pictureOf bs) (heldWithout (pictureOf bs) b) (forestAt (suc i)))) 14
-      ∷ on (not (eqb (sectionIn edition1 (slotCount (pictureOf bs)) ev i 1) (weighed (pictureOf bs) (blockAt i) .loss) && eqb (sectionIn edition1 (slotCount (pictureOf bs)) ev i 2) (weighed (pictureOf bs) (blockAt i) .mark))) 15
+      ∷ on (not (eqb (sectionIn edition1 (slotCount (pictureOf bs)) ev i .loss) (weighed (pictureOf bs) (blockAt i) .loss) && eqb (sectionIn edition1 (slotCount (pictureOf bs)) ev i .mark) (weighed (pictureOf bs) (blockAt i) .mark))) 15
       ∷ []))
       (weighed-block (pictureOf bs) (blockAt i))
 
@@ -117,15 +118,15 @@ module _ (bs ev : List ℕ) where
   module _ (n : ℕ) (many : n ≡ slotCount (pictureOf bs)) where
     pub stated-found : (k w m : ℕ) → Found k w m → statedTest ev (72 + k * (40 + n * 16)) k w m ≡ statedRight k
     unfolding statedTest statedRight
-    stated-found zero w m e = ap (eqb (headIn ev 4)) e
+    stated-found zero w m e = ap (eqb (headIn ev .served)) e
     stated-found (suc i) w m e =
         ap
         (λ (b : Bool).
-        cond b (eqb (headIn ev 4) w) (eqb (fieldAt ev (72 + suc i * (40 + n * 16) - 40 + 8) 24) w && eqb (fieldAt ev (72 + suc i * (40 + n * 16) - 40 + 32) 8) m))
+        cond b (eqb (headIn ev .served) w) (eqb (fieldAt ev (72 + suc i * (40 + n * 16) - 40 + 8) 24) w && eqb (fieldAt ev (72 + suc i * (40 + n * 16) - 40 + 32) 8) m))
         (eqb·suc-zero i)
         ∙ ap₂ (λ (x y : ℕ). eqb x w && eqb y m) (loss-at n ev i (section-before n i)) (mark-at n ev i (section-before n i))
-        ∙ ap (λ (j : ℕ). eqb (sectionIn edition1 j ev i 1) w && eqb (sectionIn edition1 j ev i 2) m) many
-        ∙ ap₂ (λ (x y : ℕ). eqb (sectionIn edition1 (slotCount (pictureOf bs)) ev i 1) x && eqb (sectionIn edition1 (slotCount (pictureOf bs)) ev i 2) y) (e .0) (e .1)
+        ∙ ap (λ (j : ℕ). eqb (sectionIn edition1 j ev i .loss) w && eqb (sectionIn edition1 j ev i .mark) m) many
+        ∙ ap₂ (λ (x y : ℕ). eqb (sectionIn edition1 (slotCount (pictureOf bs)) ev i .loss) x && eqb (sectionIn edition1 (slotCount (pictureOf bs)) ev i .mark) y) (e .0) (e .1)
 
     pub forest-found : (k : ℕ) → forestIn edition1 n ev (72 + k * (40 + n * 16)) ≡ forestAt k
     unfolding forestAt
@@ -134,7 +135,7 @@ module _ (bs ev : List ℕ) where
     -- what the form says of the section of part k
     pub formed-block : formRight edition1 (pictureOf bs) ev ≡ true → (i : ℕ) → i < length (candidates (pictureOf bs)) → fieldAt ev (72 + suc i * (40 + n * 16) - 40) 8 ≡ blockAt i
     unfolding blockAt
-    formed-block e i l = block-at n ev i (section-before n i) ∙ ap (λ (j : ℕ). sectionIn edition1 j ev i 0) many ∙ right-form edition1 (pictureOf bs) ev e .blocks i l
+    formed-block e i l = block-at n ev i (section-before n i) ∙ ap (λ (j : ℕ). sectionIn edition1 j ev i .block) many ∙ right-form edition1 (pictureOf bs) ev e .blocks i l
 
     pub held-found : (row near left : List ℕ) (size k : ℕ) → SlotRowsOf (pictureOf bs) row near → size ≡ pictureOf bs .blockSize → formRight edition1 (pictureOf bs) ev ≡ true → k ≤ length (candidates (pictureOf bs))
         → LeftIn row size (fieldAt ev (72 + k * (40 + n * 16) - 40) 8) k left → (v : ℕ) → heldIn left v ≡ heldAt k v

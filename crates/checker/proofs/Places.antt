@@ -10,11 +10,11 @@ use Rattle.bits.specs.Bits.{fieldAt}
 use Rattle.lists.specs.Lists.{range}
 use Rattle.lists.proofs.Ranges.{length-range}
 use Rattle.lists.proofs.Filters.{length-filter-le}
-use Rattle.rows.specs.Rows.{slotsMost}
+use Rattle.rows.specs.Rows.{slotsMax}
 use Rattle.picture.specs.declared.Header.{Header}
 use Rattle.picture.specs.Layout.{edition1, blocksMax}
 use Rattle.picture.specs.Picture.{pictureOf}
-use Rattle.picture.specs.Answers.{Read}
+use Rattle.picture.specs.Inner.{Read}
 use Rattle.picture.proofs.Facts.{read-sizes}
 use Rattle.network.specs.Words.{blockCount}
 use Rattle.network.specs.Tests.{isCandidate, candidates}
@@ -24,7 +24,7 @@ use Rattle.evidence.specs.Checks.{formRight}
 use Rattle.checker.proofs.Parts.{blockAt, formed-block}
 
 -- a place in the evidence
-pub place-small : (k n : ℕ) → k ≤ blocksMax → n ≤ slotsMost → 72 + k * (40 + n * 16) < 2 ^ 18
+pub place-small : (k n : ℕ) → k ≤ blocksMax → n ≤ slotsMax → 72 + k * (40 + n * 16) < 2 ^ 18
 place-small k n a b = let m : k * (40 + n * 16) ≤ blocksMax * (40 + n * 16) = mul-le-mul-right (40 + n * 16) a in omega arith
 
 module _ (bs : List ℕ) (h : Header) (r : Read bs h) where
@@ -36,7 +36,7 @@ module _ (bs : List ℕ) (h : Header) (r : Read bs h) where
 
   -- the block that a section of part k evicts is one of the picture's
   pub part-room : (ev : List ℕ) → formRight edition1 (pictureOf bs) ev ≡ true → (k : ℕ) → 1 ≤ k → k ≤ length (candidates (pictureOf bs))
-      → fieldAt ev (72 + k * (40 + h .slots * 16) - 40) 8 * h .«block_size» + h .«block_size» ≤ slotsMost
+      → fieldAt ev (72 + k * (40 + h .slots * 16) - 40) 8 * h .«block_size» + h .«block_size» ≤ slotsMax
   part-room ev f zero s l = absurd (omega arith)
   part-room ev f (suc i) s l =
       rw (formed-block bs ev (h .slots) (sym (read-slots bs h r)) f i l) (read-block bs h r (blockAt bs ev i) (unfold blockAt in candidates-below (pictureOf bs) i l))

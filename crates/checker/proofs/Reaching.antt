@@ -13,7 +13,8 @@ use Rattle.lists.specs.Lists.{range, item}
 use Rattle.lists.proofs.Ranges.{length-range, getD-map-range}
 use Rattle.rows.specs.Rows.{marked}
 use Rattle.graph.specs.Chains.{Entry, unreached}
-use Rattle.graph.specs.Rounds.{Node, forest}
+use Rattle.graph.specs.declared.Node.{Node}
+use Rattle.graph.specs.Rounds.{forest}
 use Rattle.graph.specs.Kept.{nodeOf}
 use Rattle.graph.specs.Steps.{Walked}
 use Rattle.graph.proofs.Keeping.{reached-kept, kept-reached, computed-entry}

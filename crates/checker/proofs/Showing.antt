@@ -21,7 +21,8 @@ use Rattle.picture.specs.Layout.{edition1}
 use Rattle.picture.specs.Picture.{pictureOf}
 use Rattle.picture.specs.Faults.{pictureFault}
 use Rattle.network.specs.Words.{slotCount}
-use Rattle.network.specs.Tests.{Weighed, candidates}
+use Rattle.network.specs.declared.Cost.{Cost}
+use Rattle.network.specs.Tests.{candidates}
 use Rattle.network.proofs.Weights.{weighed-block}
 use Rattle.evidence.specs.Layout.{nodeWidths, sectionWidths, forestBits, sectionAt, sectionBits, evidenceBytes}
 use Rattle.evidence.specs.Canonical.{weighings, least}
@@ -38,15 +39,15 @@ use Rattle.checker.proofs.Answering.{map-shift, twice, check-parts, wei
 -- ---- how many blocks are below another
 
 -- one section more
-pub below-more : (n : ℕ) (ev : List ℕ) (i b : ℕ) → blocksBelow n ev (i + 1) b ≡ blocksBelow n ev i b + on (ltb (sectionIn edition1 n ev i 0) b) 1
+pub below-more : (n : ℕ) (ev : List ℕ) (i b : ℕ) → blocksBelow n ev (i + 1) b ≡ blocksBelow n ev i b + on (ltb (sectionIn edition1 n ev i .block) b) 1
 unfolding blocksBelow
 below-more n ev i b =
-    ap (λ (k : ℕ). sum (map (λ j. on (ltb (sectionIn edition1 n ev j 0) b) 1) (range 0 k))) (add-one i) ∙ sum-more (λ j. on (ltb (sectionIn edition1 n ev j 0) b) 1) 0 i
-    ∙ ap (λ (j : ℕ). sum (map (λ j. on (ltb (sectionIn edition1 n ev j 0) b) 1) (range 0 i)) + on (ltb (sectionIn edition1 n ev j 0) b) 1) (zero-add i)
+    ap (λ (k : ℕ). sum (map (λ j. on (ltb (sectionIn edition1 n ev j .block) b) 1) (range 0 k))) (add-one i) ∙ sum-more (λ j. on (ltb (sectionIn edition1 n ev j .block) b) 1) 0 i
+    ∙ ap (λ (j : ℕ). sum (map (λ j. on (ltb (sectionIn edition1 n ev j .block) b) 1) (range 0 i)) + on (ltb (sectionIn edition1 n ev j .block) b) 1) (zero-add i)
 
 pub below-le : (n : ℕ) (ev : List ℕ) (count b : ℕ) → blocksBelow n ev count b ≤ count
 unfolding blocksBelow
-below-le n ev count b = omega (arith, sum-le (λ j. on (ltb (sectionIn edition1 n ev j 0) b) 1) 1 0 count (λ j. on-le (ltb (sectionIn edition1 n ev j 0) b) 1 1 (λ t. omega arith)))
+below-le n ev count b = omega (arith, sum-le (λ j. on (ltb (sectionIn edition1 n ev j .block) b) 1) 1 0 count (λ j. on-le (ltb (sectionIn edition1 n ev j .block) b) 1 1 (λ t. omega arith)))
 
 -- a filter counted place by place
 filter-count : (f : ℕ → Bool) (l : List ℕ) → length (filter f l) ≡ sum (map (λ i. on (f (getD l i 0)) 1) (range 0 (length l)))
@@ -77,21 +78,21 @@ filter-shorter f (x ∷ l) (suc i) h e = go (f x) (filter-shorter f l i (le-of-s
 
 -- ---- the part
 
-nobody : Weighed
+nobody : Cost
 nobody = record { block = 0; loss = 0; mark = 0 }
 
 module _ (bs ev : List ℕ) where
   lower : ℕ
-  lower = length (filter (λ c. ltb c (headIn ev 2)) (candidates (pictureOf bs)))
+  lower = length (filter (λ c. ltb c (headIn ev .block)) (candidates (pictureOf bs)))
 
   -- the check fails, or the verdict is none
   pub shown-failed : checkFault bs ev ≢ 0 → shownPart bs ev ≡ record { start = 0; size = 0 }
   unfolding shownPart
   shown-failed n = rw (ne-eqb (checkFault bs ev) 0 n)
 
-  pub shown-none : headIn ev 1 ≢ 1 → shownPart bs ev ≡ record { start = 0; size = 0 }
+  pub shown-none : headIn ev .verdict ≢ 1 → shownPart bs ev ≡ record { start = 0; size = 0 }
   unfolding shownPart
-  shown-none n = rw (ne-eqb (headIn ev 1) 1 n, and-false (eqb (checkFault bs ev) 0))
+  shown-none n = rw (ne-eqb (headIn ev .verdict) 1 n, and-false (eqb (checkFault bs ev) 0))
 
   module _ (passed : checkFault bs ev ≡ 0) where
     passes : first (pictureFault bs ∷ on (not (formRight edition1 (pictureOf bs) ev)) 13 ∷ partsFault bs ev ∷ on (not (verdictRight ev (weighings (pictureOf bs)))) 16 ∷ []) ≡ 0
@@ -104,28 +105,28 @@ module _ (bs ev : List ℕ) where
     judged = twice (verdictRight ev (weighings (pictureOf bs))) (on-zero (not (verdictRight ev (weighings (pictureOf bs)))) 15 (first-zero _ passes 3))
 
     -- the candidates below a block are the sections of lower blocks
-    counted : lower ≡ blocksBelow (slotCount (pictureOf bs)) ev (headIn ev 3) (headIn ev 2)
+    counted : lower ≡ blocksBelow (slotCount (pictureOf bs)) ev (headIn ev .count) (headIn ev .block)
     unfolding lower blocksBelow
     counted =
         let p = pictureOf bs in
         let form = right-form edition1 p ev formed in
-        filter-count (λ c. ltb c (headIn ev 2)) (candidates p)
-        ∙ sum-same (λ i. on (ltb (getD (candidates p) i 0) (headIn ev 2)) 1) (λ i. on (ltb (sectionIn edition1 (slotCount p) ev i 0) (headIn ev 2)) 1) 0 (length (candidates p))
-        (λ u l s. ap (λ (x : ℕ). on (ltb x (headIn ev 2)) 1) (sym (form .blocks u (rw zero-add at s))))
-        ∙ ap (λ (k : ℕ). sum (map (λ i. on (ltb (sectionIn edition1 (slotCount p) ev i 0) (headIn ev 2)) 1) (range 0 k))) (sym (form .count))
+        filter-count (λ c. ltb c (headIn ev .block)) (candidates p)
+        ∙ sum-same (λ i. on (ltb (getD (candidates p) i 0) (headIn ev .block)) 1) (λ i. on (ltb (sectionIn edition1 (slotCount p) ev i .block) (headIn ev .block)) 1) 0 (length (candidates p))
+        (λ u l s. ap (λ (x : ℕ). on (ltb x (headIn ev .block)) 1) (sym (form .blocks u (rw zero-add at s))))
+        ∙ ap (λ (k : ℕ). sum (map (λ i. on (ltb (sectionIn edition1 (slotCount p) ev i .block) (headIn ev .block)) 1) (range 0 k))) (sym (form .count))
 
-    module _ (chosen : headIn ev 1 ≡ 1) where
+    module _ (chosen : headIn ev .verdict ≡ 1) where
       part-start : shownPart bs ev .start ≡ sectionAt edition1 (slotCount (pictureOf bs)) lower / 8
       unfolding shownPart lower
-      part-start = rw (eq-eqb (checkFault bs ev) 0 passed, eq-eqb (headIn ev 1) 1 chosen)
+      part-start = rw (eq-eqb (checkFault bs ev) 0 passed, eq-eqb (headIn ev .verdict) 1 chosen)
 
       part-size : shownPart bs ev .size ≡ (40 + slotCount (pictureOf bs) * 16) / 8
       unfolding shownPart sectionBits sectionWidths forestBits nodeWidths sum
-      part-size = rw (eq-eqb (checkFault bs ev) 0 passed, eq-eqb (headIn ev 1) 1 chosen)
+      part-size = rw (eq-eqb (checkFault bs ev) 0 passed, eq-eqb (headIn ev .verdict) 1 chosen)
 
-      pub shown-start : (n i : ℕ) → n ≡ slotCount (pictureOf bs) → i ≡ blocksBelow n ev (headIn ev 3) (headIn ev 2) → sectionAt edition1 n i / 8 ≡ shownPart bs ev .start
+      pub shown-start : (n i : ℕ) → n ≡ slotCount (pictureOf bs) → i ≡ blocksBelow n ev (headIn ev .count) (headIn ev .block) → sectionAt edition1 n i / 8 ≡ shownPart bs ev .start
       shown-start n i e q =
-          ap₂ (λ (x y : ℕ). sectionAt edition1 x y / 8) e (q ∙ ap (λ (x : ℕ). blocksBelow x ev (headIn ev 3) (headIn ev 2)) e ∙ sym counted) ∙ sym part-start
+          ap₂ (λ (x y : ℕ). sectionAt edition1 x y / 8) e (q ∙ ap (λ (x : ℕ). blocksBelow x ev (headIn ev .count) (headIn ev .block)) e ∙ sym counted) ∙ sym part-start
 
       pub shown-size : (n : ℕ) → n ≡ slotCount (pictureOf bs) → (40 + n * 16) / 8 ≡ shownPart bs ev .size
       shown-size n e = ap (λ (x : ℕ). (40 + x * 16) / 8) e ∙ sym part-size
@@ -136,16 +137,16 @@ module _ (bs ev : List ℕ) where
       fewer =
           let p = pictureOf bs in
           let c = least (weighings p) in
-          let r = and-T (eqb (headIn ev 1) (c .verdict)) _ judged in
-          let s = and-T (eqb (headIn ev 5) (c .loss)) _ (r .1) in
-          let v : c .verdict ≢ 0 = λ z. absurd (omega (arith, eqb→eq (headIn ev 1) (c .verdict) (r .0), chosen)) in
-          let named = any-at nobody (λ w. eqb (w .block) (headIn ev 2) && (eqb (w .mark) 0 && eqb (w .loss) (c .loss))) (weighings p) (rw (ne-eqb (c .verdict) 0 v) at (s .1)) in
+          let r = and-T (eqb (headIn ev .verdict) (c .verdict)) _ judged in
+          let s = and-T (eqb (headIn ev .loss) (c .loss)) _ (r .1) in
+          let v : c .verdict ≢ 0 = λ z. absurd (omega (arith, eqb→eq (headIn ev .verdict) (c .verdict) (r .0), chosen)) in
+          let named = any-at nobody (λ w. eqb (w .block) (headIn ev .block) && (eqb (w .mark) 0 && eqb (w .loss) (c .loss))) (weighings p) (rw (ne-eqb (c .verdict) 0 v) at (s .1)) in
           let l : named .at < length (candidates p) = rw weighings-length at (named .within) in
           let w = getD (weighings p) (named .at) nobody in
-          let b : getD (candidates p) (named .at) 0 ≡ headIn ev 2 =
-          sym (ap (λ (x : Weighed). x .block) (weighed-at p nobody (candidates p) (named .at) l) ∙ weighed-block p (getD (candidates p) (named .at) 0))
-          ∙ eqb→eq (w .block) (headIn ev 2) (and-T (eqb (w .block) (headIn ev 2)) (eqb (w .mark) 0 && eqb (w .loss) (c .loss)) (named .passes) .0) in
-          filter-shorter (λ c. ltb c (headIn ev 2)) (candidates p) (named .at) l (le-ltb (getD (candidates p) (named .at) 0) (headIn ev 2) (omega (arith, b)))
+          let b : getD (candidates p) (named .at) 0 ≡ headIn ev .block =
+          sym (ap (λ (x : Cost). x .block) (weighed-at p nobody (candidates p) (named .at) l) ∙ weighed-block p (getD (candidates p) (named .at) 0))
+          ∙ eqb→eq (w .block) (headIn ev .block) (and-T (eqb (w .block) (headIn ev .block)) (eqb (w .mark) 0 && eqb (w .loss) (c .loss)) (named .passes) .0) in
+          filter-shorter (λ c. ltb c (headIn ev .block)) (candidates p) (named .at) l (le-ltb (getD (candidates p) (named .at) 0) (headIn ev .block) (omega (arith, b)))
 
       section-room : shownPart bs ev .start + shownPart bs ev .size ≤ length ev
       unfolding evidenceBytes
@@ -169,5 +170,5 @@ module _ (bs ev : List ℕ) where
   shown-room =
       by-cases
       (ℕ-discrete (checkFault bs ev) 0)
-      (λ z. by-cases (ℕ-discrete (headIn ev 1) 1) (λ e. section-room z e) (λ n. rw (shown-none n) (omega arith)))
+      (λ z. by-cases (ℕ-discrete (headIn ev .verdict) 1) (λ e. section-room z e) (λ n. rw (shown-none n) (omega arith)))
       (λ n. rw (shown-failed n) (omega arith))

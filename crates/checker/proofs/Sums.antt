@@ -21,7 +21,7 @@ use Rattle.checker.proofs.Parts.{blockAt, heldAt, Found}
 clear : (n v : ℕ) → ¬ T (marked (replicate n 0) v)
 clear n v t = T-not (marked (replicate n 0) v) (rw (clear-row n v) tt) t
 
-module _ (bs ev : List ℕ) (named : Named (pictureOf bs)) (table : List (List ℕ)) (weights guarded : List ℕ) (d : ℕ) (t : RowsOf (λ c a. joins (pictureOf bs .services) a c) table)
+module _ (bs ev : List ℕ) (named : Named (pictureOf bs)) (table : List (List ℕ)) (weights guarded : List ℕ) (d : ℕ) (t : RowsOf (λ c a. joins (pictureOf bs .serviceLinks) a c) table)
     (e : EndpointsOf (pictureOf bs) weights guarded) (many : d ≡ endpointCount (pictureOf bs)) where
   -- part 0 is weighed against nothing, and each section against the first forest
   pub sums-found : (k : ℕ) (first inner before after : List ℕ) (w m : ℕ) → (k ≡ 0 → (before ≡ inner) × (after ≡ replicate rowWords 0)) → (k ≢ 0 → (before ≡ first) × (after ≡ inner))

@@ -8,7 +8,7 @@ use lib.ListN.{length}
 use Rattle.bits.specs.Bits.{fieldAt}
 use Rattle.lists.specs.Lists.{range, on, first, sum}
 use Rattle.rows.specs.Rows.{Minus}
-use Rattle.graph.specs.Rounds.{Node}
+use Rattle.graph.specs.declared.Node.{Node}
 use Rattle.graph.specs.Kept.{nodeOf}
 use Rattle.picture.specs.Layout.{edition1, editionOf}
 use Rattle.picture.specs.Picture.{Picture, pictureOf}
@@ -17,11 +17,11 @@ use Rattle.network.specs.Tests.{servedWeight, candidates}
 use Rattle.network.specs.Rows.{BlockRow}
 use Rattle.evidence.specs.Layout.{headWidths, nodeWidths, sectionBits}
 use Rattle.evidence.specs.Canonical.{weighings}
-use Rattle.evidence.specs.Checks.{headIn, nodeIn, isIn, forestRight, firstForest, sectionFault}
+use Rattle.evidence.specs.Checks.{headIn, nodeAt, isIn, forestRight, firstForest, sectionFault}
 
 -- node v of the forest that starts at bit q
 unfoldable pub nodeFrom : List ℕ → ℕ → ℕ → Node
-nodeFrom ev q v = nodeIn edition1 ev (q + (v - 1) * sum (nodeWidths edition1))
+nodeFrom ev q v = nodeAt edition1 ev (q + (v - 1) * sum (nodeWidths edition1))
 
 -- the rule of a slot's node, over any links
 unfoldable pub nodeTest : (ℕ → ℕ → Bool) → (ℕ → Bool) → List Node → ℕ → Bool
@@ -43,13 +43,13 @@ pub record LeftIn (row : List ℕ) (size b k : ℕ) (left : List ℕ) : Type 0 w
 
 -- the weight and the mark that part k states, whose forest starts at bit q: the served weight, or the loss and the mark of a section
 unfoldable pub statedTest : List ℕ → ℕ → ℕ → ℕ → ℕ → Bool
-statedTest ev q k weight mark = cond (eqb k 0) (eqb (headIn ev 4) weight) (eqb (fieldAt ev (q - 40 + 8) 24) weight && eqb (fieldAt ev (q - 40 + 32) 8) mark)
+statedTest ev q k weight mark = cond (eqb k 0) (eqb (headIn ev .served) weight) (eqb (fieldAt ev (q - 40 + 8) 24) weight && eqb (fieldAt ev (q - 40 + 32) 8) mark)
 
 -- 14 and 15 of part k
 unfoldable pub partFault : List ℕ → List ℕ → ℕ → ℕ
 partFault bs ev zero =
     let p : Picture = pictureOf bs in
-    first (on (not (forestRight p (isHeld p) (firstForest (editionOf bs) (slotCount p) ev))) 14 ∷ on (not (eqb (headIn ev 4) (servedWeight p))) 15 ∷ [])
+    first (on (not (forestRight p (isHeld p) (firstForest (editionOf bs) (slotCount p) ev))) 14 ∷ on (not (eqb (headIn ev .served) (servedWeight p))) 15 ∷ [])
 partFault bs ev (suc i) = sectionFault (editionOf bs) (pictureOf bs) ev (weighings (pictureOf bs)) i
 
 -- the first fault of the parts

@@ -5,11 +5,11 @@ ghost use mathlib.Core.List.{List};
 ghost use Prim.Native.Nat.{ℕ, _+_, _-_, _*_, _^_, _≤_, _<_};
 ghost use lib.ListN.{length};
 ghost use Rattle.bits.specs.Bits.{fieldAt};
-ghost use Rattle.rows.specs.Rows.{linkedIn, locationsMost, slotsMost};
+ghost use Rattle.rows.specs.Rows.{linkedIn, locationsMax, slotsMax};
 ghost use Rattle.graph.specs.Held.{heldIn};
 ghost use Rattle.picture.specs.Layout.{edition1};
 ghost use Rattle.picture.specs.Picture.{pictureOf};
-ghost use Rattle.picture.specs.Answers.{Read};
+ghost use Rattle.picture.specs.Inner.{Read};
 ghost use Rattle.network.specs.Tests.{candidates};
 ghost use Rattle.network.specs.Rows.{SlotRowsOf};
 ghost use Rattle.evidence.specs.Checks.{forestIn, formRight};
@@ -39,7 +39,7 @@ struct Node {
 
 // Node v of the forest that starts at bit q, read as one field.
 fn node_at(ev: &[u8], q: usize, v: usize) -> Node
-    requires { ⌜ (1 ≤ v) × (v ≤ slotsMost) × (q < 2 ^ 20) ⌝ }
+    requires { ⌜ (1 ≤ v) × (v ≤ slotsMax) × (q < 2 ^ 20) ⌝ }
     ensures { λ r. ⌜ (r .parent ≡ nodeFrom (now (ev .entry)) q v .parent) × (r .depth ≡ nodeFrom (now (ev .entry)) q v .depth) ⌝ }
 {
     let both = bits::field(ev, q + (v - 1) * NODE_BITS, NODE_BITS);
@@ -59,7 +59,7 @@ fn node_right(
     v: usize,
     x: Node,
 ) -> bool
-    requires { ⌜ (length (now links) ≡ locationsMost) × (1 ≤ v) × (v ≤ n) × (n ≤ slotsMost) × (q < 2 ^ 20) ⌝ }
+    requires { ⌜ (length (now links) ≡ locationsMax) × (1 ≤ v) × (v ≤ n) × (n ≤ slotsMax) × (q < 2 ^ 20) ⌝ }
     requires { ⌜ (x .parent ≡ nodeFrom (now ev) q v .parent) × (x .depth ≡ nodeFrom (now ev) q v .depth) ⌝ }
     ensures { λ r. ⌜ r ≡ nodeTest (linkedIn (now (links .entry))) (heldIn (now (held .entry))) (forestIn edition1 n (now (ev .entry)) q) v ⌝ }
 {
@@ -91,7 +91,7 @@ fn node_right(
 
 // The held slots of part k, whose forest starts at bit q: all of them, less those of the block that a section evicts.
 fn held_in(held: [u64; WORDS], size: usize, ev: &[u8], q: usize, k: usize) -> [u64; WORDS]
-    requires { ⌜ (40 ≤ q) × (1 ≤ k → fieldAt (now ev) (q - 40) 8 * size + size ≤ slotsMost) ⌝ }
+    requires { ⌜ (40 ≤ q) × (1 ≤ k → fieldAt (now ev) (q - 40) 8 * size + size ≤ slotsMax) ⌝ }
     ensures { λ r. ⌜ LeftIn held size (fieldAt (now (ev .entry)) (q - 40) 8) k r ⌝ }
 {
     if k == 0 {
@@ -127,7 +127,7 @@ pub fn parts_fault(s: &[u8], h: Header, ev: &[u8], held: [u64; WORDS], count: us
     let size = h.block_size;
     let d = h.endpoints;
     let links = network::link_rows(s, h);
-    let services = network::service_rows(s, h);
+    let services = network::service_link_rows(s, h);
     let ends = network::endpoint_rows(s, h);
     let weights = ends.weights;
     let protected = ends.protected;

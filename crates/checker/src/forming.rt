@@ -4,7 +4,7 @@ ghost use mathlib.Core.Bool.{_&&_, _||_};
 ghost use Prim.Native.Nat.{_+_, _*_, _≤_};
 ghost use lib.Dec.{eqb, leb};
 ghost use lib.ListN.{length};
-ghost use Rattle.rows.specs.Rows.{slotsMost};
+ghost use Rattle.rows.specs.Rows.{slotsMax};
 ghost use Rattle.picture.specs.Layout.{blocksMax};
 ghost use Rattle.evidence.specs.Checks.{verdictRight};
 ghost use Rattle.checker.specs.Forming.{blockMarked, blocksMarked, headTest, sectionTest, formTest, blocksBelow, stated};
@@ -32,7 +32,7 @@ pub struct Form {
 
 // Whether block b has a marked slot.
 fn block_marked(near: [u64; WORDS], size: usize, b: usize) -> bool
-    requires { ⌜ b * size + size ≤ slotsMost ⌝ }
+    requires { ⌜ b * size + size ≤ slotsMax ⌝ }
     ensures { λ r. ⌜ r ≡ blockMarked near size b ⌝ }
 {
     rows::meet(network::block_row(size, b), near)
@@ -40,7 +40,7 @@ fn block_marked(near: [u64; WORDS], size: usize, b: usize) -> bool
 
 // Whether section i is of block b and has a mark of 0 or 1.
 fn section_right(ev: &[u8], n: usize, i: usize, b: usize) -> bool
-    requires { ⌜ (n ≤ slotsMost) × (i ≤ 255) ⌝ }
+    requires { ⌜ (n ≤ slotsMax) × (i ≤ 255) ⌝ }
     ensures { λ r. ⌜ r ≡ sectionTest n (now (ev .entry)) i b ⌝ }
 {
     let at = evidence::section_at(n, i);
@@ -52,7 +52,7 @@ fn section_right(ev: &[u8], n: usize, i: usize, b: usize) -> bool
 
 // Whether length, edition, verdict and count are right for so many candidates.
 fn head_right(ev: &[u8], n: usize, count: usize) -> bool
-    requires { ⌜ (n ≤ slotsMost) × (count ≤ 255) ⌝ }
+    requires { ⌜ (n ≤ slotsMax) × (count ≤ 255) ⌝ }
     ensures { λ r. ⌜ r ≡ headTest n (now (ev .entry)) count ⌝ }
 {
     if ev.len() != evidence::section_at(n, count) / BYTE_BITS {
@@ -69,7 +69,7 @@ fn head_right(ev: &[u8], n: usize, count: usize) -> bool
 
 // The form of evidence, for the candidates of so many blocks.
 pub fn form_of(ev: &[u8], n: usize, size: usize, blocks: usize, near: [u64; WORDS]) -> Form
-    requires { ⌜ (n ≤ slotsMost) × (blocks ≤ blocksMax) × (blocks * size ≤ n) ⌝ }
+    requires { ⌜ (n ≤ slotsMax) × (blocks ≤ blocksMax) × (blocks * size ≤ n) ⌝ }
     ensures { λ r. ⌜ (r .right ≡ formTest n (now (ev .entry)) (blocksMarked near size blocks)) × (r .count ≡ length (blocksMarked near size blocks)) ⌝ }
 {
     let mut right = true;
@@ -120,7 +120,7 @@ fn is_named(b: usize, mark: usize, lost: usize, block: usize, loss: usize) -> bo
 // Whether the verdict, its block and its loss are as the sections imply. From the last section to the first the least admissible loss is
 // kept, and whether the head's block is one with the head's loss.
 pub fn verdict_right(ev: &[u8], n: usize, count: usize) -> bool
-    requires { ⌜ (n ≤ slotsMost) × (count ≤ 255) ⌝ }
+    requires { ⌜ (n ≤ slotsMax) × (count ≤ 255) ⌝ }
     ensures { λ r. ⌜ r ≡ verdictRight (now (ev .entry)) (stated n (now (ev .entry)) count) ⌝ }
 {
     let block = bits::field(ev, BLOCK_AT, BLOCK_BITS);
@@ -157,7 +157,7 @@ pub fn verdict_right(ev: &[u8], n: usize, count: usize) -> bool
 
 // How many sections are of a block below b.
 pub fn sections_below(ev: &[u8], n: usize, count: usize, b: usize) -> usize
-    requires { ⌜ (n ≤ slotsMost) × (count ≤ 255) ⌝ }
+    requires { ⌜ (n ≤ slotsMax) × (count ≤ 255) ⌝ }
     ensures { λ r. ⌜ r ≡ blocksBelow n (now (ev .entry)) count b ⌝ }
 {
     let mut below: usize = 0;

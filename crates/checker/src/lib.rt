@@ -1,6 +1,6 @@
 // Checking evidence from anywhere against a picture. It follows the forests that the evidence brings and never searches for a chain.
 ghost use mathlib.Core.Path.{_≡_};
-ghost use Rattle.picture.specs.Answers.{Read};
+ghost use Rattle.picture.specs.Inner.{Read};
 ghost use Rattle.evidence.specs.Checks.{checkFault};
 ghost use Rattle.evidence.specs.Calls.{shown, shownPart};
 ghost use Rattle.checker.specs.Answers.{checking, past};

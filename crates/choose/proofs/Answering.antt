@@ -8,7 +8,7 @@ use native.Mathlib.Omega.{arith}
 use borrow.Author.Tests.{ne-eqb, eq-eqb, lt-ltb, le-ltb}
 use lib.Dec.{ltb}
 use lib.ListN.{length, drop}
-use Rattle.lists.specs.Lists.{on, first, told}
+use Rattle.lists.specs.Lists.{on, first, outcome}
 use Rattle.lists.proofs.Faults.{stop-at, skip-at, end-at}
 use Rattle.picture.specs.Faults.{pictureFault}
 use Rattle.evidence.specs.Canonical.{evidenceOf}
@@ -53,10 +53,10 @@ module _ (bs buf : List ℕ) where
 
 -- ---- the numbers of the answer
 
-pub choosing-numbers : (bs buf : List ℕ) → choosingNumbers (choosing bs buf) ≡ told (chooseFault bs buf) (lengthFor bs ∷ [])
-unfolding choosingNumbers choosing choosingOf told
+pub choosing-numbers : (bs buf : List ℕ) → choosingNumbers (choosing bs buf) ≡ outcome (chooseFault bs buf) (lengthFor bs ∷ [])
+unfolding choosingNumbers choosing choosingOf outcome
 choosing-numbers bs buf = go (chooseFault bs buf)
   where
-    go : (k : ℕ) → choosingNumbers (choosingOf k (lengthFor bs)) ≡ told k (lengthFor bs ∷ [])
+    go : (k : ℕ) → choosingNumbers (choosingOf k (lengthFor bs)) ≡ outcome k (lengthFor bs ∷ [])
     go zero = refl
     go (suc k) = refl

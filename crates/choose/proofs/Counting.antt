@@ -10,7 +10,7 @@ use lib.Dec.{T}
 use lib.ListN.{length, length-append}
 use Rattle.lists.specs.Lists.{range, filter}
 use Rattle.lists.proofs.Tests.{and-T, T-and, is-false}
-use Rattle.rows.specs.Rows.{marked, Meet, slotsMost}
+use Rattle.rows.specs.Rows.{marked, Meet, slotsMax}
 use Rattle.picture.specs.Picture.{Picture, slotOf}
 use Rattle.network.specs.Words.{inBlock, isHeld}
 use Rattle.network.specs.Tests.{isCandidate, candidates}
@@ -20,7 +20,7 @@ use Rattle.choose.specs.Sections.{Counted}
 use Rattle.lists.proofs.Growing.{filter-more}
 
 -- a block below the last ends before it does
-pub block-within : (b blocks size : ℕ) → b < blocks → blocks * size ≤ slotsMost → b * size + size ≤ slotsMost
+pub block-within : (b blocks size : ℕ) → b < blocks → blocks * size ≤ slotsMax → b * size + size ≤ slotsMax
 block-within b blocks size l h = let e : suc b * size ≤ blocks * size = mul-le-mul-right size l in omega (arith, suc-mul b size)
 
 is-true : (b : Bool) → T b → b ≡ true

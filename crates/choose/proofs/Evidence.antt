@@ -14,10 +14,11 @@ use Rattle.graph.specs.Steps.{Walked}
 use Rattle.picture.specs.declared.Header.{Header}
 use Rattle.picture.specs.Layout.{edition1}
 use Rattle.picture.specs.Picture.{Picture, pictureOf}
-use Rattle.picture.specs.Answers.{Read}
+use Rattle.picture.specs.Inner.{Read}
 use Rattle.picture.proofs.Facts.{read-limited}
 use Rattle.network.specs.Words.{slotCount, isHeld, joins}
-use Rattle.network.specs.Tests.{Weighed, servedWeight, candidates}
+use Rattle.network.specs.declared.Cost.{Cost}
+use Rattle.network.specs.Tests.{servedWeight, candidates}
 use Rattle.network.specs.Rows.{RowsOf, SlotRowsOf, EndpointsOf}
 use Rattle.network.proofs.Making.{clear-row}
 use Rattle.network.proofs.Named.{accepted-named}
@@ -25,7 +26,8 @@ use Rattle.weigh.specs.Sums.{LostBetween}
 use Rattle.weigh.proofs.Blocks.{read-slots, read-endpoints}
 use Rattle.weigh.proofs.Serving.{walked-over, served-value}
 use Rattle.evidence.specs.Layout.{headWidths}
-use Rattle.evidence.specs.Canonical.{Choice, weighings, least, headFields, forestFields, forestOf, sectionFields, evidenceFields, evidenceOf}
+use Rattle.evidence.specs.declared.Choice.{Choice}
+use Rattle.evidence.specs.Canonical.{weighings, least, headFields, forestFields, forestOf, sectionFields, evidenceFields, evidenceOf}
 use Rattle.evidence.specs.Calls.{lengthFor}
 use Rattle.evidence.proofs.Fields.{length-forest-of, head-span, length-weighings, candidates-few, served-small, choice-fits, span-bytes}
 use Rattle.evidence.proofs.Written.{written}
@@ -63,7 +65,7 @@ clear n v t = T-not (marked (replicate n 0) v) (rw (clear-row n v) tt) t
 
 -- the rows of a picture, with the row of what is reached now
 abbrev pub rows-made : {bs : List ℕ} {h : Header} {linkTable serviceTable : List (List ℕ)} {weights guarded holding nearby ps ds : List ℕ} (reached : List ℕ) → Read bs h
-    → RowsOf (joins (pictureOf bs .links)) linkTable → RowsOf (λ c a. joins (pictureOf bs .services) a c) serviceTable → EndpointsOf (pictureOf bs) weights guarded → SlotRowsOf (pictureOf bs) holding nearby
+    → RowsOf (joins (pictureOf bs .links)) linkTable → RowsOf (λ c a. joins (pictureOf bs .serviceLinks) a c) serviceTable → EndpointsOf (pictureOf bs) weights guarded → SlotRowsOf (pictureOf bs) holding nearby
     → Walked (linkedIn linkTable) (heldIn holding) (marked reached) ps ds → WeighRows bs h linkTable serviceTable weights guarded reached
 rows-made {bs} {h} {linkTable} {holding = holding} {ps = ps} {ds = ds} reached r l s e k w =
     record {
@@ -115,7 +117,7 @@ module _ {bs : List ℕ} {h : Header} {linkTable serviceTable : List (List ℕ)}
       p : Picture
       p = pictureOf bs
 
-      ws : List Weighed
+      ws : List Cost
       ws = weighings p
 
       head : List Field

@@ -13,10 +13,12 @@ use Rattle.packing.proofs.Fields.{span-append, span-flat}
 use Rattle.picture.specs.Layout.{edition1}
 use Rattle.picture.specs.Picture.{Picture}
 use Rattle.network.specs.Words.{slotCount, blockCount, heldWithout}
-use Rattle.network.specs.Tests.{Weighed, weighed, isCandidate, candidates}
+use Rattle.network.specs.declared.Cost.{Cost}
+use Rattle.network.specs.Tests.{weighed, isCandidate, candidates}
 use Rattle.network.proofs.Weights.{weighed-block}
 use Rattle.evidence.specs.Layout.{sectionWidths}
-use Rattle.evidence.specs.Canonical.{Choice, weighings, least, fieldsOf, forestFields, forestOf, sectionFields}
+use Rattle.evidence.specs.declared.Choice.{Choice}
+use Rattle.evidence.specs.Canonical.{weighings, least, fieldsOf, forestFields, forestOf, sectionFields}
 use Rattle.choose.specs.Sections.{bettered, Room, SectionDone, Sectioned}
 use Rattle.lists.proofs.Growing.{map-append, flat-map-more, filter-more, filter-grows}
 use Rattle.packing.proofs.Putting.{put-none, put-behind, put-same}
@@ -27,19 +29,19 @@ use Rattle.evidence.proofs.Lengths.{sections-bits}
 
 -- ---- widths
 
-span-section : (p : Picture) (w : Weighed) → span (sectionFields edition1 p w) ≡ 40 + slotCount p * 16
+span-section : (p : Picture) (w : Cost) → span (sectionFields edition1 p w) ≡ 40 + slotCount p * 16
 unfolding sectionFields sectionWidths fieldsOf span
 span-section p w =
     span-append (fieldsOf sectionWidths (w .block ∷ w .loss ∷ w .mark ∷ [])) (forestFields edition1 (forestOf p (heldWithout p (w .block))))
     ∙ ap (λ (x : ℕ). 40 + x) (span-forest (forestOf p (heldWithout p (w .block))) ∙ ap (λ (n : ℕ). n * 16) (length-forest-of p (heldWithout p (w .block))))
 
-pub span-sections : (p : Picture) (ws : List Weighed) → span (flat (map (sectionFields edition1 p) ws)) ≡ length ws * (5 + slotCount p * 2) * 8
+pub span-sections : (p : Picture) (ws : List Cost) → span (flat (map (sectionFields edition1 p) ws)) ≡ length ws * (5 + slotCount p * 2) * 8
 span-sections p ws = span-flat (sectionFields edition1 p) (40 + slotCount p * 16) (span-section p) ws ∙ sections-bits (slotCount p) (length ws)
 
 -- ---- the candidates below a block
 
 -- the candidates below b as they weigh
-pub weighedBelow : Picture → ℕ → List Weighed
+pub weighedBelow : Picture → ℕ → List Cost
 weighedBelow p b = map (weighed p) (filter (isCandidate p) (range 0 b))
 
 -- the sections of the candidates below b stand from byte `at` on, byte q is behind them, and the choice is that among them
@@ -101,9 +103,9 @@ module _ (p : Picture) where
           (put-behind (at * 8) (flat (map (sectionFields edition1 p) (weighedBelow p b))) (sectionFields edition1 p (weighed p b)) (s .put)
           (put-same (d .put) (omega (arith, s .behind, span-sections p (weighedBelow p b))) refl))
           refl
-          (sym (ap (λ (ws : List Weighed). flat (map (sectionFields edition1 p) ws)) more ∙ flat-map-more (sectionFields edition1 p) (weighedBelow p b) (weighed p b)))
+          (sym (ap (λ (ws : List Cost). flat (map (sectionFields edition1 p) ws)) more ∙ flat-map-more (sectionFields edition1 p) (weighedBelow p b) (weighed p b)))
 
-      this : _≡_ {A = Weighed} (record { block = b; loss = lost; mark = told }) (weighed p b)
+      this : _≡_ {A = Cost} (record { block = b; loss = lost; mark = told }) (weighed p b)
       this = λ i. record { block = sym (weighed-block p b) i; loss = d .loss i; mark = d .mark i }
 
       choice : best′ ≡ least (weighedBelow p (b + 1))

@@ -10,7 +10,8 @@ use Rattle.packing.specs.Packing.{Field}
 use Rattle.packing.specs.Holding.{span, Put}
 use Rattle.picture.specs.Layout.{edition1}
 use Rattle.evidence.specs.Layout.{headWidths, sectionWidths}
-use Rattle.evidence.specs.Canonical.{Choice, fieldsOf, headFields, forestFields}
+use Rattle.evidence.specs.declared.Choice.{Choice}
+use Rattle.evidence.specs.Canonical.{fieldsOf, headFields, forestFields}
 use Rattle.choose.specs.Writing.{nodesIn, arraySection, SectionFits, HeadFits}
 use Rattle.packing.proofs.Putting.{put-none, put-one, put-behind, put-same}
 

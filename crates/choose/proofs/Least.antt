@@ -8,12 +8,13 @@ use native.Mathlib.Omega.{arith}
 use native.Mathlib.Decide.{ℕ-discrete, decLt}
 use borrow.Author.Tests.{eq-eqb, ne-eqb, le-leb, lt-leb, lt-ltb, le-ltb}
 use lib.Dec.{eqb, leb}
-use Rattle.network.specs.Tests.{Weighed}
-use Rattle.evidence.specs.Canonical.{Choice, least}
+use Rattle.network.specs.declared.Cost.{Cost}
+use Rattle.evidence.specs.declared.Choice.{Choice}
+use Rattle.evidence.specs.Canonical.{least}
 use Rattle.choose.specs.Sections.{bettered}
 
 -- a weighing as a choice
-abbrev pub taken : Weighed → Choice
+abbrev pub taken : Cost → Choice
 taken w = record { verdict = 1; block = w .block; loss = w .loss }
 
 or-true : (b : Bool) → (b || true) ≡ true
@@ -26,7 +27,7 @@ and-false false = refl
 
 -- ---- one more at the end
 
-module _ (c : Choice) (w : Weighed) where
+module _ (c : Choice) (w : Cost) where
   -- nothing was chosen
   pub better-first : w .mark ≡ 0 → c .verdict ≡ 0 → bettered c w ≡ taken w
   unfolding bettered
@@ -49,7 +50,7 @@ module _ (c : Choice) (w : Weighed) where
 
 -- ---- one more at the front
 
-module _ (w : Weighed) (ws : List Weighed) where
+module _ (w : Cost) (ws : List Cost) where
   front-first : w .mark ≡ 0 → least ws .verdict ≡ 0 → least (w ∷ ws) ≡ taken w
   unfolding least
   front-first m v = rw (eq-eqb (w .mark) 0 m, eq-eqb (least ws .verdict) 0 v)
@@ -67,12 +68,12 @@ module _ (w : Weighed) (ws : List Weighed) where
   front-kept v l = rw (ne-eqb (least ws .verdict) 0 v, lt-leb (w .loss) (least ws .loss) l, and-false)
 
 -- the rest matters only by its choice
-front-same : (x : Weighed) (ws ws′ : List Weighed) → least ws′ ≡ least ws → least (x ∷ ws′) ≡ least (x ∷ ws)
+front-same : (x : Cost) (ws ws′ : List Cost) → least ws′ ≡ least ws → least (x ∷ ws′) ≡ least (x ∷ ws)
 unfolding least
 front-same x ws ws′ e = ap (λ (r : Choice). cond (eqb (x .mark) 0 && (eqb (r .verdict) 0 || leb (x .loss) (r .loss))) (taken x) r) e
 
 -- one at the front and one at the end may be put in either order: the one at the front is taken among equals
-module _ (x w : Weighed) (ws ws′ : List Weighed) (e : least ws′ ≡ bettered (least ws) w) where
+module _ (x w : Cost) (ws ws′ : List Cost) (e : least ws′ ≡ bettered (least ws) w) where
   abbrev Swapped : Type 0
   Swapped = least (x ∷ ws′) ≡ bettered (least (x ∷ ws)) w
 
@@ -115,6 +116,6 @@ module _ (x w : Weighed) (ws ws′ : List Weighed) (e : least ws′ ≡ bettered
       (λ m. front-marked x ws′ m ∙ e ∙ sym (ap (λ (c : Choice). bettered c w) (front-marked x ws m)))
 
 -- one more at the end is one more that may be better
-pub least-more : (ws : List Weighed) (w : Weighed) → least (ws ++ (w ∷ [])) ≡ bettered (least ws) w
+pub least-more : (ws : List Cost) (w : Cost) → least (ws ++ (w ∷ [])) ≡ bettered (least ws) w
 least-more [] w = unfold least bettered in refl
 least-more (x ∷ ws) w = step x w ws (ws ++ (w ∷ [])) (least-more ws w)

@@ -12,7 +12,8 @@ use Rattle.lists.proofs.Ranges.{length-range, getD-map-range}
 use Rattle.packing.specs.Holding.{span, Put}
 use Rattle.packing.proofs.Fields.{span-flat}
 use Rattle.graph.specs.Chains.{Entry}
-use Rattle.graph.specs.Rounds.{Node, forest}
+use Rattle.graph.specs.declared.Node.{Node}
+use Rattle.graph.specs.Rounds.{forest}
 use Rattle.graph.specs.Kept.{nodeOf}
 use Rattle.graph.specs.Steps.{Walked}
 use Rattle.graph.proofs.Keeping.{entries-same}

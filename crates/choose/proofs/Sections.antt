@@ -5,14 +5,14 @@ use mathlib.Core.List.{List, [], _∷_, _++_}
 use Prim.Native.Nat.{ℕ, _*_, _/_, _≤_, _<_}
 use native.Mathlib.Omega.{arith}
 use lib.ListN.{length}
-use Rattle.rows.specs.Rows.{marked, linkedIn, Meet, Minus, locationsMost}
+use Rattle.rows.specs.Rows.{marked, linkedIn, Meet, Minus, locationsMax}
 use Rattle.graph.specs.Held.{heldIn}
 use Rattle.graph.specs.Steps.{Walked}
-use Rattle.graph.specs.Rounds.{Node}
+use Rattle.graph.specs.declared.Node.{Node}
 use Rattle.picture.specs.declared.Header.{Header}
 use Rattle.picture.specs.Layout.{edition1, blocksMax, endpointsMax}
 use Rattle.picture.specs.Picture.{pictureOf}
-use Rattle.picture.specs.Answers.{Read}
+use Rattle.picture.specs.Inner.{Read}
 use Rattle.picture.proofs.Facts.{read-limited, read-sizes}
 use Rattle.network.specs.Words.{slotCount, blockCount, heldWithout, joins}
 use Rattle.network.specs.Tests.{weighed, isCandidate}
@@ -57,7 +57,7 @@ module _ {bs : List ℕ} {h : Header} (r : Read bs h) {b : ℕ} {holding nearby 
 
 module _ {bs : List ℕ} {h : Header} {linkTable serviceTable : List (List ℕ)} {weights guarded reached : List ℕ} (r : WeighRows bs h linkTable serviceTable weights guarded reached) where
   -- what the sums need of the rows
-  pub rows-ready : Small weights × (length serviceTable ≡ locationsMost) × (h .endpoints ≤ endpointsMax)
+  pub rows-ready : Small weights × (length serviceTable ≡ locationsMax) × (h .endpoints ≤ endpointsMax)
   rows-ready = (
     record { many = r .ends .many; weight = λ u. rw (r .ends .weight u) (weight-small bs u) },
     r .services .many,
@@ -99,7 +99,7 @@ module _ {bs : List ℕ} {h : Header} {linkTable serviceTable : List (List ℕ)}
       pub section-done : {at : ℕ} {buf buf′ : List ℕ} → Put buf (at * 8) (arraySection b lost told ps ds (h .slots)) buf′ → SectionDone (pictureOf bs) b at buf buf′ lost told
       section-done p = record { put = put-same p refl section-same; loss = lost-loss; mark = told-mark }
 
-      pub section-fits : {at : ℕ} {buf : List ℕ} → b < blockCount (pictureOf bs) → Room (h .slots) at 1 buf → length ps ≡ locationsMost → length ds ≡ locationsMost
+      pub section-fits : {at : ℕ} {buf : List ℕ} → b < blockCount (pictureOf bs) → Room (h .slots) at 1 buf → length ps ≡ locationsMax → length ds ≡ locationsMax
           → SectionFits at (h .slots) b lost told ps ds buf
       section-fits k o e f =
           record {

@@ -13,12 +13,14 @@ use Rattle.graph.specs.Steps.{Walked}
 use Rattle.picture.specs.declared.Header.{Header}
 use Rattle.picture.specs.Layout.{edition1}
 use Rattle.picture.specs.Picture.{Picture, pictureOf}
-use Rattle.picture.specs.Answers.{Read}
+use Rattle.picture.specs.Inner.{Read}
 use Rattle.network.specs.Words.{blockCount, isHeld, heldWithout, joins}
-use Rattle.network.specs.Tests.{Weighed, weighed, candidates}
+use Rattle.network.specs.declared.Cost.{Cost}
+use Rattle.network.specs.Tests.{weighed, candidates}
 use Rattle.network.specs.Rows.{RowsOf, SlotRowsOf, EndpointsOf}
-use Rattle.evidence.specs.Layout.{evidenceMost}
-use Rattle.evidence.specs.Canonical.{Choice, weighings, least, sectionFields}
+use Rattle.evidence.specs.Layout.{evidenceMax}
+use Rattle.evidence.specs.declared.Choice.{Choice}
+use Rattle.evidence.specs.Canonical.{weighings, least, sectionFields}
 use Rattle.evidence.specs.Calls.{lengthFor}
 use Rattle.choose.specs.declared.Choice.{Choice as Kept}
 
@@ -30,7 +32,7 @@ choiceOf c = record { verdict = c .verdict; block = c .block; loss = c .loss }
 
 -- the choice with one candidate more, whose number is above all before: it is taken where it cuts no protected endpoint, and none was
 -- chosen before or one that loses more
-unfoldable pub bettered : Choice → Weighed → Choice
+unfoldable pub bettered : Choice → Cost → Choice
 bettered c w =
     let this : Choice = record { verdict = 1; block = w .block; loss = w .loss } in
     cond (eqb (w .mark) 0 && (eqb (c .verdict) 0 || ltb (w .loss) (c .loss))) this c
@@ -48,7 +50,7 @@ pub record Counted (size blocks : ℕ) (nearby : List ℕ) (count : ℕ) : Type 
 pub record WeighRows (bs : List ℕ) (h : Header) (linkTable serviceTable : List (List ℕ)) (weights guarded reached : List ℕ) : Type 0 where
   pub read : Read bs h
   pub links : RowsOf (joins (pictureOf bs .links)) linkTable
-  pub services : RowsOf (λ c a. joins (pictureOf bs .services) a c) serviceTable
+  pub services : RowsOf (λ c a. joins (pictureOf bs .serviceLinks) a c) serviceTable
   pub ends : EndpointsOf (pictureOf bs) weights guarded
   pub parents : List ℕ
   pub depths : List ℕ
@@ -62,7 +64,7 @@ pub record Left (p : Picture) (b : ℕ) (left : List ℕ) : Type 0 where
 -- there is room for c sections from byte q on; the bound keeps a bit's place in the numbers of the code
 pub record Room (n q c : ℕ) (bs : List ℕ) : Type 0 where
   pub fits : q + c * (5 + n * 2) ≤ length bs
-  pub low : q + c * (5 + n * 2) ≤ evidenceMost
+  pub low : q + c * (5 + n * 2) ≤ evidenceMax
 
 -- what a section needs: the rows of some picture, a block, and room
 pub record SectionReady (h : Header) (linkTable serviceTable : List (List ℕ)) (weights guarded reached rest : List ℕ) (b q : ℕ) (buf : List ℕ) : Type 0 where

@@ -4,10 +4,11 @@ use Prim.Native.Nat.{ℕ, _+_, _*_, _^_, _≤_, _<_}
 use lib.ListN.{length, getD}
 use Rattle.lists.specs.Lists.{range}
 use Rattle.packing.specs.Packing.{Field}
-use Rattle.graph.specs.Rounds.{Node}
+use Rattle.graph.specs.declared.Node.{Node}
 use Rattle.picture.specs.Layout.{edition1}
-use Rattle.evidence.specs.Layout.{sectionWidths, evidenceMost}
-use Rattle.evidence.specs.Canonical.{Choice, fieldsOf, forestFields}
+use Rattle.evidence.specs.Layout.{sectionWidths, evidenceMax}
+use Rattle.evidence.specs.declared.Choice.{Choice}
+use Rattle.evidence.specs.Canonical.{fieldsOf, forestFields}
 
 -- the nodes of the slots 1 to n, in arrays that start at location 0
 unfoldable pub nodesIn : List ℕ → List ℕ → ℕ → List Node
@@ -21,7 +22,7 @@ arraySection block loss mark parents depths n =
 -- the values of a section's fields fit their widths, and there is room for them. A place is low enough for the numbers of the code
 pub record SectionFits (at n block lost told : ℕ) (parents depths buf : List ℕ) : Type 0 where
   pub room : at + 5 + n * 2 ≤ length buf
-  pub low : at ≤ evidenceMost
+  pub low : at ≤ evidenceMax
   pub number : block < 2 ^ 8
   pub loss : lost < 2 ^ 24
   pub mark : told < 2 ^ 8

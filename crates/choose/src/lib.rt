@@ -4,7 +4,7 @@ ghost use mathlib.Core.List.{List, _++_};
 ghost use Prim.Native.Nat.{ℕ, _+_, _*_, _/_, _≤_, _<_};
 ghost use lib.ListN.{length, drop};
 ghost use Rattle.packing.specs.Holding.{Put};
-ghost use Rattle.rows.specs.Rows.{slotsMost};
+ghost use Rattle.rows.specs.Rows.{slotsMax};
 ghost use Rattle.picture.specs.Layout.{edition1, blocksMax};
 ghost use Rattle.picture.specs.Picture.{pictureOf};
 ghost use Rattle.network.specs.Tests.{candidates};
@@ -95,7 +95,7 @@ fn better(c: Choice, block: u8, loss: u32, mark: u8) -> Choice
 
 // The number of candidates: blocks with a held near slot.
 fn count_candidates(size: usize, blocks: usize, near: [u64; WORDS]) -> usize
-    requires { ⌜ blocks * size ≤ slotsMost ⌝ }
+    requires { ⌜ blocks * size ≤ slotsMax ⌝ }
     ensures { λ r. ⌜ Counted size blocks near r ⌝ }
 {
     let mut count: usize = 0;
@@ -232,7 +232,7 @@ fn put_head(buf: &mut [u8], c: Choice, count: usize, served: usize)
 
 // The bytes of the evidence for n slots and so many candidates.
 fn evidence_bytes(n: usize, count: usize) -> usize
-    requires { ⌜ (n ≤ slotsMost) × (count ≤ blocksMax) ⌝ }
+    requires { ⌜ (n ≤ slotsMax) × (count ≤ blocksMax) ⌝ }
     ensures { λ r. ⌜ r ≡ evidenceBytes edition1 n count ⌝ }
 {
     evidence::section_at(n, count) / BYTE_BITS
@@ -248,7 +248,7 @@ fn write_evidence(s: &[u8], buf: &mut [u8], h: Header, slots: SlotRows, count: u
     let held = slots.held;
     let near = slots.near;
     let links = network::link_rows(s, h);
-    let services = network::service_rows(s, h);
+    let services = network::service_link_rows(s, h);
     let ends = network::endpoint_rows(s, h);
     let weights = ends.weights;
     let protected = ends.protected;

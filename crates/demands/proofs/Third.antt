@@ -9,10 +9,10 @@ use Rattle.picture.specs.Picture.{Picture, pictureOf}
 use Rattle.picture.specs.Faults.{pictureFault}
 use Rattle.network.specs.Words.{isHeld}
 use Rattle.network.specs.Tests.{servedWeight}
-use Rattle.network.proofs.Named.{accepted-named}
+use Rattle.network.proofs.LeastAdmissible.{accepted-named}
 use Rattle.evidence.specs.Canonical.{evidenceOf}
 use Rattle.evidence.specs.Calls.{chooseFault}
-use Rattle.evidence.specs.Rules.{Named, Verdict, chosen, none}
+use Rattle.evidence.specs.Rules.{LeastAdmissible, Verdict, chosen, none}
 use Rattle.evidence.proofs.Lengths.{choose-takes, chosen-evidence}
 use Rattle.evidence.proofs.Passing.{check-passes}
 use Rattle.evidence.proofs.Canonical.{canonical-passes}
@@ -40,13 +40,13 @@ verdict-small : {p : Picture} {v b l : ℕ} → Verdict p v b l → v ≤ 1
 verdict-small (chosen n) = omega arith
 verdict-small (none k) = omega arith
 
-verdict-named : {p : Picture} {v b l : ℕ} → Verdict p v b l → v ≢ 0 → Named p b l
+verdict-named : {p : Picture} {v b l : ℕ} → Verdict p v b l → v ≢ 0 → LeastAdmissible p b l
 verdict-named (chosen n) _ = n
 verdict-named (none k) m = absurd (m refl)
 
 -- ---- evicting what is named
 
-module _ (bs : List ℕ) (ok : pictureFault bs ≡ 0) {b l : ℕ} (n : Named (pictureOf bs) b l) where
+module _ (bs : List ℕ) (ok : pictureFault bs ≡ 0) {b l : ℕ} (n : LeastAdmissible (pictureOf bs) b l) where
   evicts-named : actFault Evict bs b ≡ 0
   evicts-named = evict-candidate bs b ok (n .candidate) (n .admissible)
 

@@ -19,13 +19,13 @@ written bs buf = take (lengthFor bs) (chosenBytes bs buf)
 
 -- "the fields verdict, block and loss at the start of that evidence"
 unfoldable pub verdictIn : List ℕ → ℕ
-verdictIn ev = headIn ev 1
+verdictIn ev = headIn ev .verdict
 
 unfoldable pub blockIn : List ℕ → ℕ
-blockIn ev = headIn ev 2
+blockIn ev = headIn ev .block
 
 unfoldable pub lossIn : List ℕ → ℕ
-lossIn ev = headIn ev 5
+lossIn ev = headIn ev .loss
 
 -- a picture's served weight
 abbrev pub Serves : Picture → ℕ → Type 0

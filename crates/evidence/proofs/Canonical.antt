@@ -51,20 +51,20 @@ forest-right {p} n held = kept-right p held _ (forest-kept (joins (p .links)) he
 -- ---- what is read back passes each test
 
 module _ {e : Edition} {p : Picture} {ev : List ℕ} (r : Reads e p ev) where
-  form-right : length ev ≡ evidenceBytes e (slotCount p) (length (candidates p)) → headIn ev 1 ≤ 1 → T (formRight e p ev)
+  form-right : length ev ≡ evidenceBytes e (slotCount p) (length (candidates p)) → headIn ev .verdict ≤ 1 → T (formRight e p ev)
   unfolding formRight
   form-right size one =
       let n = slotCount p in
       let cs = candidates p in
       rw (
         eq-eqb (length ev) (evidenceBytes e n (length cs)) size,
-        eq-eqb (headIn ev 0) (e .number) (r .edition),
-        le-leb (headIn ev 1) 1 one,
-        eq-eqb (headIn ev 3) (length cs) (r .count),
+        eq-eqb (headIn ev .edition) (e .number) (r .edition),
+        le-leb (headIn ev .verdict) 1 one,
+        eq-eqb (headIn ev .count) (length cs) (r .count),
       )
-      (range-all (λ i. eqb (sectionIn e n ev i 0) (getD cs i 0) && leb (sectionIn e n ev i 2) 1) 0 (length cs) (λ i h s.
+      (range-all (λ i. eqb (sectionIn e n ev i .block) (getD cs i 0) && leb (sectionIn e n ev i .mark) 1) 0 (length cs) (λ i h s.
       let m : i < length cs = omega arith in
-      rw (eq-eqb (sectionIn e n ev i 0) (getD cs i 0) (r .blocks i m), le-leb (sectionIn e n ev i 2) 1 (omega (arith, r .marks i m, mark-le p (getD cs i 0)))) tt))
+      rw (eq-eqb (sectionIn e n ev i .block) (getD cs i 0) (r .blocks i m), le-leb (sectionIn e n ev i .mark) 1 (omega (arith, r .marks i m, mark-le p (getD cs i 0)))) tt))
 
   section-passed : Named p → (i : ℕ) → i < length (candidates p) → sectionFault e p ev (weighings p) i ≡ 0
   unfolding sectionFault
@@ -81,9 +81,9 @@ module _ {e : Edition} {p : Picture} {ev : List ℕ} (r : Reads e p ev) where
       (λ c.
       let w = getD (weighings p) (c .at) unweighed in
       rw (c .verdict)
-      (at-any unweighed (λ w. eqb (w .block) (headIn ev 2) && (eqb (w .mark) 0 && eqb (w .loss) (least (weighings p) .loss))) (weighings p) (c .at) (c .within)
-      (rw (eq-eqb (w .block) (headIn ev 2) (sym (r .block ∙ c .block)), eq-eqb (w .mark) 0 (c .clear), eq-eqb (w .loss) (least (weighings p) .loss) (sym (c .loss))) tt)))
-      (λ c. rw (c .verdict) (eq-T (headIn ev 2) 0 (r .block ∙ c .block)))
+      (at-any unweighed (λ w. eqb (w .block) (headIn ev .block) && (eqb (w .mark) 0 && eqb (w .loss) (least (weighings p) .loss))) (weighings p) (c .at) (c .within)
+      (rw (eq-eqb (w .block) (headIn ev .block) (sym (r .block ∙ c .block)), eq-eqb (w .mark) 0 (c .clear), eq-eqb (w .loss) (least (weighings p) .loss) (sym (c .loss))) tt)))
+      (λ c. rw (c .verdict) (eq-T (headIn ev .block) 0 (r .block ∙ c .block)))
       (least-picked (weighings p)))
 
 -- ---- the check
@@ -94,7 +94,7 @@ canonical-passes bs z =
     first-skip (pictureFault bs) _ z
     ∙ passed (formRight e p ev) 13 _ (form-right r (length-evidence bs) (omega (arith, r .verdict, choice-fits bs z .0)))
     ∙ passed (forestRight p (isHeld p) (firstForest e (slotCount p) ev)) 14 _ (rw (r .forest) (forest-right n (isHeld p)))
-    ∙ passed (eqb (headIn ev 4) (servedWeight p)) 15 _ (eq-T _ _ (r .served))
+    ∙ passed (eqb (headIn ev .served) (servedWeight p)) 15 _ (eq-T _ _ (r .served))
     ∙ first-skip (first (map (sectionFault e p ev (weighings p)) (range 0 (length (weighings p))))) _
     (range-passed (sectionFault e p ev (weighings p)) (length (weighings p)) (λ i h. section-passed r n i (omega (arith, length-weighings p))))
     ∙ passed (verdictRight ev (weighings p)) 16 [] (verdict-right r)

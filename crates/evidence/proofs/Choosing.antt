@@ -13,17 +13,19 @@ use Rattle.lists.proofs.Tests.{and-T, T-and, or-T, T-or-l, T-or-r, eq-T, either
 use Rattle.lists.proofs.Sums.{total-one}
 use Rattle.picture.specs.Picture.{Picture}
 use Rattle.network.specs.Words.{blockCount, Candidate, CutsProtected, Loss}
-use Rattle.network.specs.Tests.{Weighed, weighed}
+use Rattle.network.specs.declared.Cost.{Cost}
+use Rattle.network.specs.Tests.{weighed}
 use Rattle.network.proofs.Named.{Named}
 use Rattle.network.proofs.Weights.{loss-weight, weighed-block}
-use Rattle.evidence.specs.Canonical.{Choice, least, weighings, choice}
-use Rattle.evidence.specs.Rules.{Named as Best, Verdict, chosen, none}
+use Rattle.evidence.specs.declared.Choice.{Choice}
+use Rattle.evidence.specs.Canonical.{least, weighings, choice}
+use Rattle.evidence.specs.Rules.{LeastAdmissible, Verdict, chosen, none}
 use Rattle.evidence.proofs.Weighings.{at-place, candidate-weighing, weighing-candidate, clear-admissible, marked-protected, admissible-clear}
 
 -- ---- the least of a list of weighings
 
 -- c names the first of the weighings without a mark whose loss is least
-pub record Chosen (ws : List Weighed) (c : Choice) : Type 0 where
+pub record Chosen (ws : List Cost) (c : Choice) : Type 0 where
   pub verdict : c .verdict ≡ 1
   pub at : ℕ
   pub within : at < length ws
@@ -34,13 +36,13 @@ pub record Chosen (ws : List Weighed) (c : Choice) : Type 0 where
   pub first : (j : ℕ) → j < at → at-place ws j .mark ≡ 0 → c .loss < at-place ws j .loss
 
 -- c names nothing, and every weighing has a mark
-pub record Nothing (ws : List Weighed) (c : Choice) : Type 0 where
+pub record Nothing (ws : List Cost) (c : Choice) : Type 0 where
   pub verdict : c .verdict ≡ 0
   pub block : c .block ≡ 0
   pub loss : c .loss ≡ 0
   pub marked : (j : ℕ) → j < length ws → at-place ws j .mark ≢ 0
 
-module _ (w : Weighed) (ws : List Weighed) (rest : Choice) where
+module _ (w : Cost) (ws : List Cost) (rest : Choice) where
   this : Choice
   this = record { verdict = 1; block = w .block; loss = w .loss }
 
@@ -97,12 +99,12 @@ module _ (w : Weighed) (ws : List Weighed) (rest : Choice) where
   one-more (inr c) true e = inl (taken (better-is (subst T (sym e) tt) .0) (λ j h m. absurd (c .marked j h m)))
   one-more (inr c) false e = inr (nothing-yet c (λ m. subst T e (is-better m (T-or-l (eqb (rest .verdict) 0) _ (eq-T (rest .verdict) 0 (c .verdict))))))
 
-pub least-right : (ws : List Weighed) → Chosen ws (least ws) ⊎ Nothing ws (least ws)
+pub least-right : (ws : List Cost) → Chosen ws (least ws) ⊎ Nothing ws (least ws)
 unfolding least better this
 least-right [] = inr (record { verdict = refl; block = refl; loss = refl; marked = λ j h. absurd (not-suc-le-zero h) })
 least-right (w ∷ ws) = one-more w ws (least ws) (least-right ws) (better w ws (least ws)) refl
 
-module _ (ws : List Weighed) where
+module _ (ws : List Cost) where
   -- verdict 0 is told exactly where every weighing has a mark, and then with block 0 and loss 0
   pub least-none : least ws .verdict ≡ 0 → Nothing ws (least ws)
   least-none z = ⊎-elim (λ c. absurd (omega (arith, c .verdict))) (λ c. c) (least-right ws)
@@ -113,7 +115,7 @@ module _ (ws : List Weighed) where
 -- ---- the verdict of the rules
 
 -- a block and a loss of a weighing without a mark, none of which loses less: any of the least, not only the first
-pub record Least (ws : List Weighed) (b l : ℕ) : Type 0 where
+pub record Least (ws : List Cost) (b l : ℕ) : Type 0 where
   pub at : ℕ
   pub within : at < length ws
   pub clear : at-place ws at .mark ≡ 0
@@ -121,54 +123,54 @@ pub record Least (ws : List Weighed) (b l : ℕ) : Type 0 where
   pub loss : at-place ws at .loss ≡ l
   pub least : (j : ℕ) → j < length ws → at-place ws j .mark ≡ 0 → l ≤ at-place ws j .loss
 
-pub chosen-least : {ws : List Weighed} {c : Choice} → Chosen ws c → Least ws (c .block) (c .loss)
+pub chosen-least : {ws : List Cost} {c : Choice} → Chosen ws c → Least ws (c .block) (c .loss)
 chosen-least c = record { at = c .at; within = c .within; clear = c .clear; block = sym (c .block); loss = sym (c .loss); least = c .least }
 
 -- what is least of a list is the loss of the choice
-pub least-loss : {ws : List Weighed} {block loss : ℕ} → Least ws block loss → (least ws .verdict ≡ 1) × (least ws .loss ≡ loss)
+pub least-loss : {ws : List Cost} {block loss : ℕ} → Least ws block loss → (least ws .verdict ≡ 1) × (least ws .loss ≡ loss)
 least-loss {ws} {block} {loss} l = ⊎-elim some (λ c. absurd (c .marked (l .at) (l .within) (l .clear))) (least-right ws)
   where
     some : Chosen ws (least ws) → (least ws .verdict ≡ 1) × (least ws .loss ≡ loss)
     some c = (c .verdict, omega (arith, c .loss, l .loss, c .least (l .at) (l .within) (l .clear), l .least (c .at) (c .within) (c .clear)))
 
 module _ {p : Picture} (n : Named p) (below : (b : ℕ) → Candidate p b → b < blockCount p) where
-  pub least-best : {block loss : ℕ} → Least (weighings p) block loss → Best p block loss
+  pub least-best : {block loss : ℕ} → Least (weighings p) block loss → LeastAdmissible p block loss
   least-best {block} {loss} l =
       let r = weighing-candidate p (l .at) (l .within) in
-      let e : r .block ≡ block = sym (ap (λ (w : Weighed). w .block) (r .same) ∙ weighed-block p (r .block)) ∙ l .block in
-      subst (λ (b : ℕ). Best p b loss) e
+      let e : r .block ≡ block = sym (ap (λ (w : Cost). w .block) (r .same) ∙ weighed-block p (r .block)) ∙ l .block in
+      subst (λ (b : ℕ). LeastAdmissible p b loss) e
       (record {
         candidate = r .candidate;
-        admissible = clear-admissible n (r .block) (ap (λ (w : Weighed). w .mark) (sym (r .same)) ∙ l .clear);
-        stated = subst (Loss p (r .block)) (ap (λ (w : Weighed). w .loss) (sym (r .same)) ∙ l .loss) (loss-weight n (r .block));
+        admissible = clear-admissible n (r .block) (ap (λ (w : Cost). w .mark) (sym (r .same)) ∙ l .clear);
+        stated = subst (Loss p (r .block)) (ap (λ (w : Cost). w .loss) (sym (r .same)) ∙ l .loss) (loss-weight n (r .block));
         least = λ b c a w s.
             let o = candidate-weighing p below c in
-            let m = l .least (o .at) (o .within) (ap (λ (x : Weighed). x .mark) (o .same) ∙ admissible-clear n b a) in
-            omega (arith, ap (λ (x : Weighed). x .loss) (o .same), total-one s (loss-weight n b));
+            let m = l .least (o .at) (o .within) (ap (λ (x : Cost). x .mark) (o .same) ∙ admissible-clear n b a) in
+            omega (arith, ap (λ (x : Cost). x .loss) (o .same), total-one s (loss-weight n b));
       })
 
-  pub best-least : {block loss : ℕ} → Best p block loss → Least (weighings p) block loss
+  pub best-least : {block loss : ℕ} → LeastAdmissible p block loss → Least (weighings p) block loss
   best-least {block} {loss} t =
       let o = candidate-weighing p below (t .candidate) in
       record {
         at = o .at;
         within = o .within;
-        clear = ap (λ (x : Weighed). x .mark) (o .same) ∙ admissible-clear n block (t .admissible);
-        block = ap (λ (x : Weighed). x .block) (o .same) ∙ weighed-block p block;
-        loss = ap (λ (x : Weighed). x .loss) (o .same) ∙ total-one (loss-weight n block) (t .stated);
+        clear = ap (λ (x : Cost). x .mark) (o .same) ∙ admissible-clear n block (t .admissible);
+        block = ap (λ (x : Cost). x .block) (o .same) ∙ weighed-block p block;
+        loss = ap (λ (x : Cost). x .loss) (o .same) ∙ total-one (loss-weight n block) (t .stated);
         least = λ j h m.
             let r = weighing-candidate p j h in
-            let a = clear-admissible n (r .block) (ap (λ (w : Weighed). w .mark) (sym (r .same)) ∙ m) in
-            omega (arith, ap (λ (w : Weighed). w .loss) (r .same), t .least (r .block) (r .candidate) a (weighed p (r .block) .loss) (loss-weight n (r .block)));
+            let a = clear-admissible n (r .block) (ap (λ (w : Cost). w .mark) (sym (r .same)) ∙ m) in
+            omega (arith, ap (λ (w : Cost). w .loss) (r .same), t .least (r .block) (r .candidate) a (weighed p (r .block) .loss) (loss-weight n (r .block)));
       }
 
   pub marked-cut : ((j : ℕ) → j < length (weighings p) → at-place (weighings p) j .mark ≢ 0) → (b : ℕ) → Candidate p b → CutsProtected p b
-  marked-cut m b c = let o = candidate-weighing p below c in marked-protected n b (λ z. m (o .at) (o .within) (ap (λ (w : Weighed). w .mark) (o .same) ∙ z))
+  marked-cut m b c = let o = candidate-weighing p below c in marked-protected n b (λ z. m (o .at) (o .within) (ap (λ (w : Cost). w .mark) (o .same) ∙ z))
 
   pub cut-marked : ((b : ℕ) → Candidate p b → CutsProtected p b) → (j : ℕ) → j < length (weighings p) → at-place (weighings p) j .mark ≢ 0
   cut-marked k j h z =
       let r = weighing-candidate p j h in
-      clear-admissible n (r .block) (ap (λ (w : Weighed). w .mark) (sym (r .same)) ∙ z) (k (r .block) (r .candidate))
+      clear-admissible n (r .block) (ap (λ (w : Cost). w .mark) (sym (r .same)) ∙ z) (k (r .block) (r .candidate))
 
   pub choice-as-ruled : Verdict p (choice p .verdict) (choice p .block) (choice p .loss)
   unfolding choice

@@ -14,22 +14,25 @@ use Rattle.packing.specs.Packing.{Field}
 use Rattle.packing.specs.Holding.{span, Fit}
 use Rattle.packing.proofs.Fields.{span-append, fit-append, fit-flat, span-flat}
 use Rattle.packing.proofs.Packed.{length-packed}
-use Rattle.rows.specs.Rows.{slotsMost}
-use Rattle.graph.specs.Rounds.{Node, forest}
+use Rattle.rows.specs.Rows.{slotsMax}
+use Rattle.graph.specs.declared.Node.{Node}
+use Rattle.graph.specs.Rounds.{forest}
 use Rattle.graph.proofs.Nodes.{length-forest, forest-at, parent-le, depth-le}
 use Rattle.picture.specs.Layout.{Edition, edition1, editionOf, blocksMax}
 use Rattle.picture.specs.Picture.{Picture, headerOf, pictureOf}
 use Rattle.picture.specs.Faults.{pictureFault}
-use Rattle.picture.specs.Answers.{Read}
+use Rattle.picture.specs.Inner.{Read}
 use Rattle.picture.proofs.Accepted.{accepted-kept}
 use Rattle.network.specs.Words.{slotCount, blockCount, isHeld, heldWithout, joins}
-use Rattle.network.specs.Tests.{Weighed, weighed, servedWeight, isCandidate, candidates}
+use Rattle.network.specs.declared.Cost.{Cost}
+use Rattle.network.specs.Tests.{weighed, servedWeight, isCandidate, candidates}
 use Rattle.network.proofs.Named.{slots-counted}
 use Rattle.network.proofs.Weights.{mark-le, weighed-block, weights-small}
 use Rattle.network.proofs.Candidates.{candidates-below}
 use Rattle.weigh.proofs.Blocks.{read-blocks}
 use Rattle.evidence.specs.Layout.{headWidths, nodeWidths, sectionWidths, forestBits, sectionBits, sectionAt, evidenceBytes}
-use Rattle.evidence.specs.Canonical.{Choice, weighings, least, fieldsOf, headFields, nodeFields, forestFields, forestOf, sectionFields, evidenceFields, evidenceOf}
+use Rattle.evidence.specs.declared.Choice.{Choice}
+use Rattle.evidence.specs.Canonical.{weighings, least, fieldsOf, headFields, nodeFields, forestFields, forestOf, sectionFields, evidenceFields, evidenceOf}
 use Rattle.evidence.specs.Calls.{lengthFor}
 use Rattle.evidence.proofs.Picked.{unweighed, least-picked}
 
@@ -57,7 +60,7 @@ module _ (e : Edition) where
     unfolding forestFields forestBits
     forest-span held = span-flat (nodeFields e) (sum (nodeWidths e)) node-span (forestOf p held) ∙ rw (length-forest-of p held)
 
-    pub section-span : (w : Weighed) → span (sectionFields e p w) ≡ sectionBits e (slotCount p)
+    pub section-span : (w : Cost) → span (sectionFields e p w) ≡ sectionBits e (slotCount p)
     unfolding sectionFields sectionBits
     section-span w =
         span-append (fieldsOf sectionWidths (w .block ∷ w .loss ∷ w .mark ∷ [])) (forestFields e (forestOf p (heldWithout p (w .block))))
@@ -122,7 +125,7 @@ module _ (bs : List ℕ) (z : pictureFault bs ≡ 0) where
   read = record { accepted = z; header = refl }
 
   -- n is below 256, so that a location fits
-  pub slots-small : slotCount (pictureOf bs) ≤ slotsMost
+  pub slots-small : slotCount (pictureOf bs) ≤ slotsMax
   slots-small = omega (arith, slots-counted bs, accepted-kept bs z .sizes .slots-most)
 
   pub blocks-small : blockCount (pictureOf bs) ≤ blocksMax

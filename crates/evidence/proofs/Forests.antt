@@ -11,7 +11,7 @@ use lib.Dec.{T, T-not, not-T, eqb, eqb→eq}
 use lib.ListN.{getD}
 use Rattle.lists.specs.Lists.{range, all}
 use Rattle.lists.proofs.Tests.{and-T, T-and, or-T, T-or-l, T-or-r, eq-T, all-at}
-use Rattle.graph.specs.Rounds.{Node}
+use Rattle.graph.specs.declared.Node.{Node}
 use Rattle.graph.specs.Kept.{nodeOf, In, NodeKept, outside, inside, ForestKept}
 use Rattle.picture.specs.declared.Link.{Link}
 use Rattle.picture.specs.Picture.{Picture}

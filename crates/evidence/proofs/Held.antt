@@ -12,17 +12,18 @@ use Rattle.packing.specs.Packing.{Field}
 use Rattle.packing.specs.Holding.{span, Holds}
 use Rattle.packing.proofs.Fields.{holds-append, holds-flat}
 use Rattle.packing.proofs.Packed.{packed-holds}
-use Rattle.graph.specs.Rounds.{Node}
+use Rattle.graph.specs.declared.Node.{Node}
 use Rattle.picture.specs.Layout.{Edition, editionOf, fieldIn}
 use Rattle.picture.specs.Picture.{Picture, pictureOf, rows}
 use Rattle.picture.specs.Faults.{pictureFault}
 use Rattle.picture.proofs.Starts.{length-rows, row-at}
 use Rattle.network.specs.Words.{slotCount, isHeld, heldWithout}
-use Rattle.network.specs.Tests.{Weighed, weighed, servedWeight, candidates}
+use Rattle.network.specs.declared.Cost.{Cost}
+use Rattle.network.specs.Tests.{weighed, servedWeight, candidates}
 use Rattle.network.proofs.Weights.{weighed-block}
 use Rattle.evidence.specs.Layout.{headWidths, nodeWidths, sectionWidths, sectionBits, sectionAt}
 use Rattle.evidence.specs.Canonical.{weighings, least, fieldsOf, headFields, nodeFields, forestFields, forestOf, sectionFields, evidenceFields, evidenceOf}
-use Rattle.evidence.specs.Checks.{headIn, sectionIn, nodeIn, forestIn, firstForest, sectionForest}
+use Rattle.evidence.specs.Checks.{headIn, sectionIn, nodeAt, forestIn, firstForest, sectionForest}
 use Rattle.evidence.proofs.Picked.{unweighed}
 use Rattle.evidence.proofs.Fields.{noNode, head-of, nodes-of, sections-of, node-span, head-span, length-forest-of, forest-span, section-span, length-weighings, weighing-at, evidence-fits}
 
@@ -39,16 +40,16 @@ fields-read ev (w ∷ ws) (v ∷ vs) q h (suc k) s t =
 -- ---- a forest
 
 pub forest-read : (e : Edition) (n : ℕ) (ev : List ℕ) (q : ℕ) (xs : List Node) → length xs ≡ n → Holds ev q (forestFields e xs) → forestIn e n ev q ≡ xs
-unfolding forestFields forestIn nodeIn nodeFields nodeWidths
+unfolding forestFields forestIn nodeAt nodeFields nodeWidths
 forest-read e n ev q xs len h =
     let w = sum (nodeWidths e) in
-    ext-getD noNode (rows (nodeIn e ev) q w n) xs (length-rows (nodeIn e ev) q w n ∙ sym len) (λ i s.
-    let m : i < n = omega (arith, length-rows (nodeIn e ev) q w n) in
+    ext-getD noNode (rows (nodeAt e ev) q w n) xs (length-rows (nodeAt e ev) q w n ∙ sym len) (λ i s.
+    let m : i < n = omega (arith, length-rows (nodeAt e ev) q w n) in
     let x = getD xs i noNode in
     let r : Holds ev (q + i * w) (nodeFields e x) = holds-flat noNode (nodeFields e) w (node-span e) ev q xs h i (omega arith) in
     let a = fields-read ev (nodeWidths e) (x .parent ∷ x .depth ∷ []) (q + i * w) r 0 (lit< tt) (lit< tt) in
     let b = fields-read ev (nodeWidths e) (x .parent ∷ x .depth ∷ []) (q + i * w) r 1 (lit< tt) (lit< tt) in
-    row-at (nodeIn e ev) noNode q w n i m ∙ (λ j. record { parent = a j; depth = b j }))
+    row-at (nodeAt e ev) noNode q w n i m ∙ (λ j. record { parent = a j; depth = b j }))
 
 -- ---- the parts of the evidence
 
@@ -92,16 +93,16 @@ module _ (e : Edition) (p : Picture) (ev : List ℕ) where
 -- ---- what is read back
 
 pub record Reads (e : Edition) (p : Picture) (ev : List ℕ) : Type 0 where
-  pub edition : headIn ev 0 ≡ e .number
-  pub verdict : headIn ev 1 ≡ least (weighings p) .verdict
-  pub block : headIn ev 2 ≡ least (weighings p) .block
-  pub count : headIn ev 3 ≡ length (candidates p)
-  pub served : headIn ev 4 ≡ servedWeight p
-  pub loss : headIn ev 5 ≡ least (weighings p) .loss
+  pub edition : headIn ev .edition ≡ e .number
+  pub verdict : headIn ev .verdict ≡ least (weighings p) .verdict
+  pub block : headIn ev .block ≡ least (weighings p) .block
+  pub count : headIn ev .count ≡ length (candidates p)
+  pub served : headIn ev .served ≡ servedWeight p
+  pub loss : headIn ev .loss ≡ least (weighings p) .loss
   pub forest : firstForest e (slotCount p) ev ≡ forestOf p (isHeld p)
-  pub blocks : (i : ℕ) → i < length (candidates p) → sectionIn e (slotCount p) ev i 0 ≡ getD (candidates p) i 0
-  pub losses : (i : ℕ) → i < length (candidates p) → sectionIn e (slotCount p) ev i 1 ≡ weighed p (getD (candidates p) i 0) .loss
-  pub marks : (i : ℕ) → i < length (candidates p) → sectionIn e (slotCount p) ev i 2 ≡ weighed p (getD (candidates p) i 0) .mark
+  pub blocks : (i : ℕ) → i < length (candidates p) → sectionIn e (slotCount p) ev i .block ≡ getD (candidates p) i 0
+  pub losses : (i : ℕ) → i < length (candidates p) → sectionIn e (slotCount p) ev i .loss ≡ weighed p (getD (candidates p) i 0) .loss
+  pub marks : (i : ℕ) → i < length (candidates p) → sectionIn e (slotCount p) ev i .mark ≡ weighed p (getD (candidates p) i 0) .mark
   pub forests : (i : ℕ) → i < length (candidates p) → sectionForest e (slotCount p) ev i ≡ forestOf p (heldWithout p (getD (candidates p) i 0))
 
 module _ (e : Edition) (p : Picture) (ev : List ℕ) (parts : Parts e p ev) where
@@ -111,7 +112,7 @@ module _ (e : Edition) (p : Picture) (ev : List ℕ) (parts : Parts e p ev) wher
   head-read k s = fields-read ev headWidths _ 0 (parts .head) k s s
 
   module _ (i : ℕ) (s : i < length (candidates p)) where
-    abbrev w : Weighed
+    abbrev w : Cost
     w = weighed p (getD (candidates p) i 0)
 
     start : Holds ev (sectionAt e (slotCount p) i) (fieldsOf sectionWidths (w .block ∷ w .loss ∷ w .mark ∷ []))

@@ -16,7 +16,8 @@ use Rattle.picture.specs.Layout.{Edition, editionOf}
 use Rattle.picture.specs.Picture.{Picture, pictureOf}
 use Rattle.picture.proofs.Accepted.{judged, numbered}
 use Rattle.network.specs.Words.{slotCount, isHeld}
-use Rattle.network.specs.Tests.{Weighed, weighed, servedWeight, candidates}
+use Rattle.network.specs.declared.Cost.{Cost}
+use Rattle.network.specs.Tests.{weighed, servedWeight, candidates}
 use Rattle.network.proofs.Named.{Named, accepted-named}
 use Rattle.evidence.specs.Canonical.{weighings}
 use Rattle.evidence.specs.Checks.{headIn, sectionIn, firstForest, forestRight, formRight, sectionFault, verdictRight, checkFault}
@@ -40,13 +41,13 @@ judged-then l (passed h q) m j = passed h (judged-then l q (m .1) j)
 
 -- ---- the sections
 
-module _ {p : Picture} (n : Named p) (e : Edition) (ev : List ℕ) (marks : (i : ℕ) → i < length (candidates p) → sectionIn e (slotCount p) ev i 2 ≤ 1) where
+module _ {p : Picture} (n : Named p) (e : Edition) (ev : List ℕ) (marks : (i : ℕ) → i < length (candidates p) → sectionIn e (slotCount p) ev i .mark ≤ 1) where
   section-judged : (i : ℕ) → i < length (candidates p) → Judged (sectionRules e p ev i 1) (sectionFault e p ev (weighings p) i)
   unfolding sectionRules sectionFault forestTest numbersTest weighed
   section-judged i h =
       let b = getD (candidates p) i 0 in
       let w = weighed p b in
-      subst (λ (x : Weighed). Judged (sectionRules e p ev i 1) (first (on (not (forestTest e p ev i x)) 14 ∷ on (not (numbersTest e p ev i x)) 15 ∷ []))) (sym (weighing-at p i h))
+      subst (λ (x : Cost). Judged (sectionRules e p ev i 1) (first (on (not (forestTest e p ev i x)) 14 ∷ on (not (numbersTest e p ev i x)) 15 ∷ []))) (sym (weighing-at p i h))
       (right-then _ _ (forestTest e p ev i w) _ (λ z. absurd (omega arith)) (right-kept p _ _) (kept-right p _ _)
       (λ _. right-then _ _ (numbersTest e p ev i w) [] (λ z. absurd (omega arith))
       (λ t. let s = test-numbers e p ev i w t in right-numbers n e ev i b (s .0) (s .1))
@@ -79,6 +80,6 @@ check-judged bs ev =
     let n = accepted-named bs z in
     right-then _ _ (formRight e p ev) _ (λ z. absurd (omega arith)) (right-form e p ev) (form-right e p ev)
     (λ f. right-then _ _ (forestRight p (isHeld p) (firstForest e (slotCount p) ev)) _ (λ z. absurd (omega arith)) (right-kept p _ _) (kept-right p _ _)
-    (λ _. right-then _ _ (eqb (headIn ev 4) (servedWeight p)) _ (λ z. absurd (omega arith)) (λ t. right-served n _ (eqb→eq _ _ t)) (λ s. eq-T _ _ (served-right n _ s))
+    (λ _. right-then _ _ (eqb (headIn ev .served) (servedWeight p)) _ (λ z. absurd (omega arith)) (λ t. right-served n _ (eqb→eq _ _ t)) (λ s. eq-T _ _ (served-right n _ s))
     (λ _. judged-then _ (every-judged n e ev (f .marks)) (sections-numbered e p ev 0 (length (candidates p)))
     (λ _. right-then _ _ (verdictRight ev (weighings p)) [] (λ z. absurd (omega arith)) (right-verdict n (candidate-below bs z) ev) (verdict-right n (candidate-below bs z) ev) (λ _. judge-none))))))

@@ -16,11 +16,13 @@ use Rattle.graph.specs.Kept.{ForestKept}
 use Rattle.picture.specs.Layout.{Edition}
 use Rattle.picture.specs.Picture.{Picture}
 use Rattle.network.specs.Words.{slotCount, blockCount, isHeld, heldWithout, joins, ServedWeight, Candidate}
-use Rattle.network.specs.Tests.{Weighed, weighed, servedWeight, candidates}
+use Rattle.network.specs.declared.Cost.{Cost}
+use Rattle.network.specs.Tests.{weighed, servedWeight, candidates}
 use Rattle.network.proofs.Named.{Named}
 use Rattle.network.proofs.Weights.{served-weight, loss-weight, mark-protected, protected-mark, mark-le, weighed-block}
 use Rattle.evidence.specs.Layout.{evidenceBytes}
-use Rattle.evidence.specs.Canonical.{Choice, least, weighings}
+use Rattle.evidence.specs.declared.Choice.{Choice}
+use Rattle.evidence.specs.Canonical.{least, weighings}
 use Rattle.evidence.specs.Checks.{headIn, sectionIn, sectionForest, forestRight, formRight, sectionFault, verdictRight}
 use Rattle.evidence.specs.Rules.{Form, Numbers, Section, Verdict, chosen, none}
 use Rattle.lists.proofs.Every.{all-range, range-all}
@@ -33,24 +35,24 @@ use Rattle.evidence.proofs.Choosing.{Chosen, Nothing, least-right, leas
 module _ (e : Edition) (p : Picture) (ev : List ℕ) where
   -- what is asked of a section
   sectionForm : ℕ → Bool
-  sectionForm i = eqb (sectionIn e (slotCount p) ev i 0) (getD (candidates p) i 0) && leb (sectionIn e (slotCount p) ev i 2) 1
+  sectionForm i = eqb (sectionIn e (slotCount p) ev i .block) (getD (candidates p) i 0) && leb (sectionIn e (slotCount p) ev i .mark) 1
 
   pub right-form : T (formRight e p ev) → Form e p ev
   unfolding formRight sectionForm
   right-form t =
       let cs = candidates p in
       let t1 = and-T (eqb (length ev) (evidenceBytes e (slotCount p) (length cs))) _ t in
-      let t2 = and-T (eqb (headIn ev 0) (e .number)) _ (t1 .1) in
-      let t3 = and-T (leb (headIn ev 1) 1) _ (t2 .1) in
-      let t4 = and-T (eqb (headIn ev 3) (length cs)) (all sectionForm (range 0 (length cs))) (t3 .1) in
+      let t2 = and-T (eqb (headIn ev .edition) (e .number)) _ (t1 .1) in
+      let t3 = and-T (leb (headIn ev .verdict) 1) _ (t2 .1) in
+      let t4 = and-T (eqb (headIn ev .count) (length cs)) (all sectionForm (range 0 (length cs))) (t3 .1) in
       let each : (i : ℕ) → i < length cs → T (sectionForm i) = λ i h. all-range sectionForm 0 (length cs) (t4 .1) i zero-le (omega arith) in
       record {
         size = eqb→eq _ _ (t1 .0);
         edition = eqb→eq _ _ (t2 .0);
         verdict = leb→le _ _ (t3 .0);
         count = eqb→eq _ _ (t4 .0);
-        blocks = λ i h. eqb→eq _ _ (and-T (eqb (sectionIn e (slotCount p) ev i 0) (getD cs i 0)) (leb (sectionIn e (slotCount p) ev i 2) 1) (each i h) .0);
-        marks = λ i h. leb→le _ _ (and-T (eqb (sectionIn e (slotCount p) ev i 0) (getD cs i 0)) (leb (sectionIn e (slotCount p) ev i 2) 1) (each i h) .1);
+        blocks = λ i h. eqb→eq _ _ (and-T (eqb (sectionIn e (slotCount p) ev i .block) (getD cs i 0)) (leb (sectionIn e (slotCount p) ev i .mark) 1) (each i h) .0);
+        marks = λ i h. leb→le _ _ (and-T (eqb (sectionIn e (slotCount p) ev i .block) (getD cs i 0)) (leb (sectionIn e (slotCount p) ev i .mark) 1) (each i h) .1);
       }
 
   pub form-right : Form e p ev → T (formRight e p ev)
@@ -58,7 +60,7 @@ module _ (e : Edition) (p : Picture) (ev : List ℕ) where
   form-right f =
       rw (eq-eqb _ _ (f .size), eq-eqb _ _ (f .edition), le-leb _ _ (f .verdict), eq-eqb _ _ (f .count))
       (range-all sectionForm 0 (length (candidates p))
-      (λ i l h. T-and (eqb (sectionIn e (slotCount p) ev i 0) (getD (candidates p) i 0)) _ (eq-T _ _ (f .blocks i (omega arith))) (rw (le-leb _ _ (f .marks i (omega arith))) tt)))
+      (λ i l h. T-and (eqb (sectionIn e (slotCount p) ev i .block) (getD (candidates p) i 0)) _ (eq-T _ _ (f .blocks i (omega arith))) (rw (le-leb _ _ (f .marks i (omega arith))) tt)))
 
 -- ---- 15: the served weight
 
@@ -74,10 +76,10 @@ module _ {p : Picture} (n : Named p) (w : ℕ) where
 -- ---- 14 and 15 of a section
 
 -- the tests of section i, for the weighing w
-pub record SectionRight (e : Edition) (p : Picture) (ev : List ℕ) (i : ℕ) (w : Weighed) : Type 0 where
+pub record SectionRight (e : Edition) (p : Picture) (ev : List ℕ) (i : ℕ) (w : Cost) : Type 0 where
   pub forest : ForestKept (joins (p .links)) (heldWithout p (w .block)) (slotCount p) (sectionForest e (slotCount p) ev i)
-  pub loss : sectionIn e (slotCount p) ev i 1 ≡ w .loss
-  pub mark : sectionIn e (slotCount p) ev i 2 ≡ w .mark
+  pub loss : sectionIn e (slotCount p) ev i .loss ≡ w .loss
+  pub mark : sectionIn e (slotCount p) ev i .mark ≡ w .mark
 
 -- two tests in their order, of which each has to pass
 two-right : (a b : Bool) → first (on (not a) 14 ∷ on (not b) 15 ∷ []) ≡ 0 → T a × T b
@@ -92,24 +94,24 @@ right-two true true s t = refl
 right-two true false s t = absurd t
 right-two false b s t = absurd s
 
-module _ (e : Edition) (p : Picture) (ev : List ℕ) (i : ℕ) (w : Weighed) where
+module _ (e : Edition) (p : Picture) (ev : List ℕ) (i : ℕ) (w : Cost) where
   unfoldable pub forestTest : Bool
   forestTest = forestRight p (heldWithout p (w .block)) (sectionForest e (slotCount p) ev i)
 
   unfoldable pub numbersTest : Bool
-  numbersTest = eqb (sectionIn e (slotCount p) ev i 1) (w .loss) && eqb (sectionIn e (slotCount p) ev i 2) (w .mark)
+  numbersTest = eqb (sectionIn e (slotCount p) ev i .loss) (w .loss) && eqb (sectionIn e (slotCount p) ev i .mark) (w .mark)
 
-  pub test-numbers : T numbersTest → (sectionIn e (slotCount p) ev i 1 ≡ w .loss) × (sectionIn e (slotCount p) ev i 2 ≡ w .mark)
+  pub test-numbers : T numbersTest → (sectionIn e (slotCount p) ev i .loss ≡ w .loss) × (sectionIn e (slotCount p) ev i .mark ≡ w .mark)
   unfolding numbersTest
   test-numbers t =
-      let s = and-T (eqb (sectionIn e (slotCount p) ev i 1) (w .loss)) (eqb (sectionIn e (slotCount p) ev i 2) (w .mark)) t in
+      let s = and-T (eqb (sectionIn e (slotCount p) ev i .loss) (w .loss)) (eqb (sectionIn e (slotCount p) ev i .mark) (w .mark)) t in
       (eqb→eq _ _ (s .0), eqb→eq _ _ (s .1))
 
-  pub numbers-test : sectionIn e (slotCount p) ev i 1 ≡ w .loss → sectionIn e (slotCount p) ev i 2 ≡ w .mark → T numbersTest
+  pub numbers-test : sectionIn e (slotCount p) ev i .loss ≡ w .loss → sectionIn e (slotCount p) ev i .mark ≡ w .mark → T numbersTest
   unfolding numbersTest
   numbers-test l m = rw (eq-eqb _ _ l, eq-eqb _ _ m) tt
 
-module _ (e : Edition) (p : Picture) (ev : List ℕ) (ws : List Weighed) (i : ℕ) where
+module _ (e : Edition) (p : Picture) (ev : List ℕ) (ws : List Cost) (i : ℕ) where
   pub fault-section : sectionFault e p ev ws i ≡ 0 → SectionRight e p ev i (at-place ws i)
   unfolding sectionFault forestTest numbersTest
   fault-section z =
@@ -125,25 +127,25 @@ module _ (e : Edition) (p : Picture) (ev : List ℕ) (ws : List Weighed) (i : �
 -- ---- 15 of the section of block b, by chains
 
 module _ {p : Picture} (n : Named p) (e : Edition) (ev : List ℕ) (i b : ℕ) where
-  pub right-numbers : sectionIn e (slotCount p) ev i 1 ≡ weighed p b .loss → sectionIn e (slotCount p) ev i 2 ≡ weighed p b .mark → Numbers e p ev i b
+  pub right-numbers : sectionIn e (slotCount p) ev i .loss ≡ weighed p b .loss → sectionIn e (slotCount p) ev i .mark ≡ weighed p b .mark → Numbers e p ev i b
   right-numbers l m =
       record { loss = rw l (loss-weight n b); marked = λ o. mark-protected n b (sym m ∙ o); unmarked = λ k. m ∙ protected-mark n k }
 
   -- a mark over 1 is a fault of the form
-  pub numbers-right : sectionIn e (slotCount p) ev i 2 ≤ 1 → Numbers e p ev i b
-      → (sectionIn e (slotCount p) ev i 1 ≡ weighed p b .loss) × (sectionIn e (slotCount p) ev i 2 ≡ weighed p b .mark)
+  pub numbers-right : sectionIn e (slotCount p) ev i .mark ≤ 1 → Numbers e p ev i b
+      → (sectionIn e (slotCount p) ev i .loss ≡ weighed p b .loss) × (sectionIn e (slotCount p) ev i .mark ≡ weighed p b .mark)
   numbers-right h s = (
     total-one (s .loss) (loss-weight n b),
     by-cases
         (ℕ-discrete (weighed p b .mark) 1)
         (λ o. s .unmarked (mark-protected n b o) ∙ sym o)
-        (λ x. by-cases (ℕ-discrete (sectionIn e (slotCount p) ev i 2) 1) (λ o. o ∙ sym (protected-mark n (s .marked o))) (λ y. omega (arith, mark-le p b))),
+        (λ x. by-cases (ℕ-discrete (sectionIn e (slotCount p) ev i .mark) 1) (λ o. o ∙ sym (protected-mark n (s .marked o))) (λ y. omega (arith, mark-le p b))),
   )
 
   pub right-section : SectionRight e p ev i (weighed p b) → Section e p ev i b
   right-section r = record { forest = rw weighed-block at (r .forest); numbers = right-numbers (r .loss) (r .mark) }
 
-  pub section-right : sectionIn e (slotCount p) ev i 2 ≤ 1 → Section e p ev i b → SectionRight e p ev i (weighed p b)
+  pub section-right : sectionIn e (slotCount p) ev i .mark ≤ 1 → Section e p ev i b → SectionRight e p ev i (weighed p b)
   section-right h s =
       let q = numbers-right h (s .numbers) in
       record { forest = rw weighed-block (s .forest); loss = q .0; mark = q .1 }
@@ -151,15 +153,15 @@ module _ {p : Picture} (n : Named p) (e : Edition) (ev : List ℕ) (i b : ℕ) w
 -- ---- 16: the verdict
 
 -- the test that a weighing is the one named
-isNamed : ℕ → ℕ → Weighed → Bool
+isNamed : ℕ → ℕ → Cost → Bool
 isNamed b l w = eqb (w .block) b && (eqb (w .mark) 0 && eqb (w .loss) l)
 
 -- the test of the verdict, by what the head says
-verdictTest : List Weighed → ℕ → ℕ → ℕ → Bool
+verdictTest : List Cost → ℕ → ℕ → ℕ → Bool
 verdictTest ws v b l = eqb v (least ws .verdict) && (eqb l (least ws .loss) && cond (eqb (least ws .verdict) 0) (eqb b 0) (any (isNamed b (least ws .loss)) ws))
 
 module _ {p : Picture} (n : Named p) (below : (b : ℕ) → Candidate p b → b < blockCount p) where
-  ws : List Weighed
+  ws : List Cost
   ws = weighings p
 
   c : Choice
@@ -211,10 +213,10 @@ module _ {p : Picture} (n : Named p) (below : (b : ℕ) → Candidate p b → b 
       let y = least-none ws z in
       rw (z, y .loss) tt
 
-  pub right-verdict : (ev : List ℕ) → T (verdictRight ev (weighings p)) → Verdict p (headIn ev 1) (headIn ev 2) (headIn ev 5)
+  pub right-verdict : (ev : List ℕ) → T (verdictRight ev (weighings p)) → Verdict p (headIn ev .verdict) (headIn ev .block) (headIn ev .loss)
   unfolding verdictRight verdictTest isNamed
-  right-verdict ev t = test-verdict (headIn ev 1) (headIn ev 2) (headIn ev 5) t
+  right-verdict ev t = test-verdict (headIn ev .verdict) (headIn ev .block) (headIn ev .loss) t
 
-  pub verdict-right : (ev : List ℕ) → Verdict p (headIn ev 1) (headIn ev 2) (headIn ev 5) → T (verdictRight ev (weighings p))
+  pub verdict-right : (ev : List ℕ) → Verdict p (headIn ev .verdict) (headIn ev .block) (headIn ev .loss) → T (verdictRight ev (weighings p))
   unfolding verdictRight verdictTest isNamed
-  verdict-right ev v = verdict-test (headIn ev 1) (headIn ev 2) (headIn ev 5) v
+  verdict-right ev v = verdict-test (headIn ev .verdict) (headIn ev .block) (headIn ev .loss) v

@@ -8,13 +8,13 @@ use borrow.Author.Tests.{le-ltb}
 use lib.ListN.{length, take, drop}
 use lib.Seq.{take-at}
 use Rattle.lists.specs.Lists.{sum, first, on}
-use Rattle.rows.specs.Rows.{slotsMost}
+use Rattle.rows.specs.Rows.{slotsMax}
 use Rattle.picture.specs.Layout.{edition1, blocksMax}
 use Rattle.picture.specs.Picture.{pictureOf}
 use Rattle.picture.specs.Faults.{pictureFault}
 use Rattle.network.specs.Words.{slotCount}
 use Rattle.network.specs.Tests.{candidates}
-use Rattle.evidence.specs.Layout.{headWidths, nodeWidths, sectionWidths, forestBits, sectionBits, sectionAt, evidenceBytes, evidenceMost}
+use Rattle.evidence.specs.Layout.{headWidths, nodeWidths, sectionWidths, forestBits, sectionBits, sectionAt, evidenceBytes, evidenceMax}
 use Rattle.evidence.specs.Canonical.{evidenceOf}
 use Rattle.evidence.specs.Calls.{lengthFor, chooseFault, chosenBytes}
 use Rattle.evidence.proofs.Fields.{slots-small, candidates-few, length-evidence}
@@ -33,11 +33,11 @@ unfolding evidenceBytes
 evidence-bytes n c = omega (arith, sections-end n c)
 
 -- at most 60 candidates and 240 slots
-pub sections-bytes : (n c : ℕ) → n ≤ slotsMost → c ≤ blocksMax → c * (5 + n * 2) ≤ 29100
+pub sections-bytes : (n c : ℕ) → n ≤ slotsMax → c ≤ blocksMax → c * (5 + n * 2) ≤ 29100
 sections-bytes n c h k = let e : 5 + n * 2 ≤ 485 = omega arith in mul-le-mul k e
 
 -- "at most 29589 bytes"
-pub length-most : (bs : List ℕ) → pictureFault bs ≡ 0 → lengthFor bs ≤ evidenceMost
+pub length-most : (bs : List ℕ) → pictureFault bs ≡ 0 → lengthFor bs ≤ evidenceMax
 unfolding lengthFor
 length-most bs ok =
     let n = slotCount (pictureOf bs) in

@@ -54,7 +54,7 @@ module _ {p : Picture} (n : Named p) (e : Edition) (ev : List ℕ) where
       right-section n e ev i (getD (candidates p) i 0)
       (subst (SectionRight e p ev i) (weighing-at p i h) (fault-section e p ev (weighings p) i (range-none _ _ z i (omega (arith, weighings-length p)))))
 
-  pub kept-sections : ((i : ℕ) → i < length (candidates p) → sectionIn e (slotCount p) ev i 2 ≤ 1) → ((i : ℕ) → i < length (candidates p) → Section e p ev i (getD (candidates p) i 0))
+  pub kept-sections : ((i : ℕ) → i < length (candidates p) → sectionIn e (slotCount p) ev i .mark ≤ 1) → ((i : ℕ) → i < length (candidates p) → Section e p ev i (getD (candidates p) i 0))
       → first (map (sectionFault e p ev (weighings p)) (range 0 (length (weighings p)))) ≡ 0
   kept-sections m s =
       none-range _ _
@@ -78,7 +78,7 @@ module _ (bs ev : List ℕ) where
   forests = forestRight p (isHeld p) (firstForest e (slotCount p) ev)
 
   weights : Bool
-  weights = eqb (headIn ev 4) (servedWeight p)
+  weights = eqb (headIn ev .served) (servedWeight p)
 
   sections : ℕ
   sections = first (map (sectionFault e p ev (weighings p)) (range 0 (length (weighings p))))

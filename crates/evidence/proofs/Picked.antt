@@ -6,15 +6,16 @@ use mathlib.Core.List.{List, [], _∷_}
 use Prim.Native.Nat.{ℕ, suc, _<_, zero-le, suc-le-suc}
 use lib.Dec.{T, eqb, leb, eqb→eq}
 use lib.ListN.{length, getD}
-use Rattle.network.specs.Tests.{Weighed}
-use Rattle.evidence.specs.Canonical.{Choice, least}
+use Rattle.network.specs.declared.Cost.{Cost}
+use Rattle.evidence.specs.declared.Choice.{Choice}
+use Rattle.evidence.specs.Canonical.{least}
 
 -- a weighing that no list has, for a place past its end
-abbrev pub unweighed : Weighed
+abbrev pub unweighed : Cost
 unweighed = record { block = 0; loss = 0; mark = 0 }
 
 -- the choice is the weighing at some place, which has no mark
-pub record Picked (ws : List Weighed) (c : Choice) : Type 0 where
+pub record Picked (ws : List Cost) (c : Choice) : Type 0 where
   pub verdict : c .verdict ≡ 1
   pub at : ℕ
   pub within : at < length ws
@@ -28,7 +29,7 @@ pub record Unpicked (c : Choice) : Type 0 where
   pub block : c .block ≡ 0
   pub loss : c .loss ≡ 0
 
-pub least-picked : (ws : List Weighed) → Picked ws (least ws) ⊎ Unpicked (least ws)
+pub least-picked : (ws : List Cost) → Picked ws (least ws) ⊎ Unpicked (least ws)
 unfolding least
 least-picked [] = inr (record { verdict = refl; block = refl; loss = refl })
 least-picked (w ∷ ws) = go (eqb (w .mark) 0) (eqb→eq (w .mark) 0) (eqb (least ws .verdict) 0 || leb (w .loss) (least ws .loss)) (least-picked ws)

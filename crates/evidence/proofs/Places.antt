@@ -6,7 +6,7 @@ use native.Mathlib.Omega.{arith}
 use native.Mathlib.Nat.{mul-le-mul-right}
 use Rattle.bits.specs.Bits.{fieldAt}
 use Rattle.lists.specs.Lists.{sum}
-use Rattle.rows.specs.Rows.{slotsMost}
+use Rattle.rows.specs.Rows.{slotsMax}
 use Rattle.picture.specs.Layout.{edition1, fieldIn}
 use Rattle.evidence.specs.Layout.{headWidths, nodeWidths, sectionWidths, forestBits, sectionBits, sectionAt}
 use Rattle.evidence.specs.Checks.{sectionIn}
@@ -15,21 +15,21 @@ pub section-at : (n i : ℕ) → sectionAt edition1 n i ≡ 72 + n * 16 + i * (4
 unfolding sectionAt headWidths sectionBits sectionWidths forestBits nodeWidths sum
 section-at n i = refl
 
-pub section-small : (n i : ℕ) → n ≤ slotsMost → i ≤ 255 → sectionAt edition1 n i < 2 ^ 20
+pub section-small : (n i : ℕ) → n ≤ slotsMax → i ≤ 255 → sectionAt edition1 n i < 2 ^ 20
 section-small n i a b =
     let m : i * (40 + n * 16) ≤ 255 * (40 + n * 16) = mul-le-mul-right (40 + n * 16) b in
     omega (arith, section-at n i)
 
 -- the fields of section i, from where it starts
 module _ (n : ℕ) (ev : List ℕ) (i : ℕ) {at : ℕ} (e : at ≡ sectionAt edition1 n i) where
-  pub block-at : fieldAt ev at 8 ≡ sectionIn edition1 n ev i 0
+  pub block-at : fieldAt ev at 8 ≡ sectionIn edition1 n ev i .block
   unfolding sectionIn sectionWidths fieldIn sum
   block-at = ap (λ (q : ℕ). fieldAt ev q 8) (e ∙ omega arith)
 
-  pub loss-at : fieldAt ev (at + 8) 24 ≡ sectionIn edition1 n ev i 1
+  pub loss-at : fieldAt ev (at + 8) 24 ≡ sectionIn edition1 n ev i .loss
   unfolding sectionIn sectionWidths fieldIn sum
   loss-at = ap (λ (q : ℕ). fieldAt ev (q + 8) 24) e
 
-  pub mark-at : fieldAt ev (at + 32) 8 ≡ sectionIn edition1 n ev i 2
+  pub mark-at : fieldAt ev (at + 32) 8 ≡ sectionIn edition1 n ev i .mark
   unfolding sectionIn sectionWidths fieldIn sum
   mark-at = ap (λ (q : ℕ). fieldAt ev (q + 32) 8) e

@@ -15,5 +15,5 @@ verdict-one (chosen {block = b} s) (none k) = absurd (s .admissible (k b (s .can
 verdict-one (none k) (chosen {block = b} s) = absurd (s .admissible (k b (s .candidate)))
 verdict-one (none k) (none j) = (refl, refl)
 
-pub same-verdict : {bs ev ev′ : List ℕ} → Passes bs ev → Passes bs ev′ → (headIn ev 1 ≡ headIn ev′ 1) × (headIn ev 5 ≡ headIn ev′ 5)
+pub same-verdict : {bs ev ev′ : List ℕ} → Passes bs ev → Passes bs ev′ → (headIn ev .verdict ≡ headIn ev′ .verdict) × (headIn ev .loss ≡ headIn ev′ .loss)
 same-verdict a b = verdict-one (a .verdict) (b .verdict)

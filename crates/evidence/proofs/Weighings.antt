@@ -13,7 +13,8 @@ use Rattle.picture.specs.Picture.{Picture, pictureOf, pictureWith}
 use Rattle.picture.specs.Faults.{pictureFault}
 use Rattle.picture.proofs.Accepted.{accepted-kept}
 use Rattle.network.specs.Words.{slotCount, blockCount, inBlock, Candidate, CutsProtected, Admissible}
-use Rattle.network.specs.Tests.{Weighed, weighed, candidates}
+use Rattle.network.specs.declared.Cost.{Cost}
+use Rattle.network.specs.Tests.{weighed, candidates}
 use Rattle.network.proofs.Named.{Named, slots-counted}
 use Rattle.network.proofs.Weights.{mark-protected, protected-mark, mark-le}
 use Rattle.network.proofs.Candidates.{near-slot, candidates-are, candidates-all}
@@ -22,7 +23,7 @@ use Rattle.evidence.specs.Canonical.{weighings}
 -- ---- the list
 
 -- the weighing at a place
-abbrev pub at-place : List Weighed → ℕ → Weighed
+abbrev pub at-place : List Cost → ℕ → Cost
 at-place ws i = getD ws i (record { block = 0; loss = 0; mark = 0 })
 
 map-at : {A B : Type 0} (f : A → B) (d : B) (c : A) (l : List A) (i : ℕ) → i < length l → getD (map f l) i d ≡ f (getD l i c)

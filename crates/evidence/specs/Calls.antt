@@ -10,6 +10,7 @@ use Rattle.picture.specs.Picture.{Picture, pictureOf}
 use Rattle.picture.specs.Faults.{pictureFault}
 use Rattle.network.specs.Words.{slotCount}
 use Rattle.network.specs.Tests.{candidates}
+use Rattle.evidence.specs.declared.Part.{Part}
 use Rattle.evidence.specs.Layout.{sectionAt, sectionBits, evidenceBytes}
 use Rattle.evidence.specs.Canonical.{evidenceOf}
 use Rattle.evidence.specs.Checks.{headIn, checkFault}
@@ -30,17 +31,13 @@ chosenBytes bs buf =
 
 -- show: where the chosen candidate's section starts and how long it is, in bytes; the empty part at the start of the evidence where the
 -- check fails or the verdict is none
-pub record Part : Type 0 where
-  pub start : ℕ
-  pub size : ℕ
-
 unfoldable pub shownPart : List ℕ → List ℕ → Part
 shownPart bs ev =
     let e : Edition = editionOf bs in
     let p : Picture = pictureOf bs in
-    let before : ℕ = length (filter (λ c. ltb c (headIn ev 2)) (candidates p)) in
+    let before : ℕ = length (filter (λ c. ltb c (headIn ev .block)) (candidates p)) in
     let section : Part = record { start = sectionAt e (slotCount p) before / 8; size = sectionBits e (slotCount p) / 8 } in
-    cond (eqb (checkFault bs ev) 0 && eqb (headIn ev 1) 1) section (record { start = 0; size = 0 })
+    cond (eqb (checkFault bs ev) 0 && eqb (headIn ev .verdict) 1) section (record { start = 0; size = 0 })
 
 unfoldable pub shown : List ℕ → List ℕ → List ℕ
 shown bs ev = take (shownPart bs ev .size) (drop (shownPart bs ev .start) ev)

@@ -2,34 +2,47 @@
 use mathlib.Core.Bool.{Bool, _&&_, _||_, cond}
 use mathlib.Core.List.{List, [], _∷_, _++_, map}
 use Prim.Native.Nat.{ℕ, _+_}
-use lib.Dec.{eqb, leb}
+use lib.Dec.{eqb, ltb}
 use lib.ListN.{length}
 use Rattle.lists.specs.Lists.{flat}
 use Rattle.packing.specs.Packing.{Field, packed}
-use Rattle.graph.specs.Rounds.{Node, forest}
+use Rattle.graph.specs.declared.Node.{Node}
+use Rattle.graph.specs.Rounds.{forest}
 use Rattle.picture.specs.Layout.{Edition, editionOf}
 use Rattle.picture.specs.Picture.{Picture, pictureOf}
 use Rattle.network.specs.Words.{slotCount, isHeld, heldWithout, joins}
-use Rattle.network.specs.Tests.{Weighed, weighed, servedWeight, candidates}
+use Rattle.network.specs.declared.Cost.{Cost}
+use Rattle.network.specs.Tests.{weighed, servedWeight, candidates}
+use Rattle.evidence.specs.declared.Choice.{Choice}
 use Rattle.evidence.specs.Layout.{headWidths, nodeWidths, sectionWidths}
 
--- what is chosen: verdict 1 with the block and its loss, or "none": 0, 0 and 0
-pub record Choice : Type 0 where
-  pub verdict : ℕ
-  pub block : ℕ
-  pub loss : ℕ
-
 -- the candidates as they weigh, in rising order
-unfoldable pub weighings : Picture → List Weighed
+unfoldable pub weighings : Picture → List Cost
 weighings p = map (weighed p) (candidates p)
 
--- the admissible candidate of least loss, the lowest number among equals, or none
-unfoldable pub least : List Weighed → Choice
-least [] = record { verdict = 0; block = 0; loss = 0 }
-least (w ∷ ws) =
-    let rest : Choice = least ws in
+-- nothing is chosen: "none" is verdict 0 with block 0 and loss 0
+abbrev pub noChoice : Choice
+noChoice = record { verdict = 0; block = 0; loss = 0 }
+
+-- the order of choice: the choice with one candidate more, whose number is above all before. It is taken where it cuts no protected
+-- endpoint, and none was chosen before or one that loses more
+unfoldable pub bettered : Choice → Cost → Choice
+bettered c w =
     let this : Choice = record { verdict = 1; block = w .block; loss = w .loss } in
-    cond (eqb (w .mark) 0 && (eqb (rest .verdict) 0 || leb (w .loss) (rest .loss))) this rest
+    cond (eqb (w .mark) 0 && (eqb (c .verdict) 0 || ltb (w .loss) (c .loss))) this c
+
+-- the choice after each candidate of a list
+unfoldable pub bettering : Choice → List Cost → Choice
+bettering c [] = c
+bettering c (w ∷ ws) = bettering (bettered c w) ws
+
+-- the admissible candidate of least loss, the lowest number among equals, or none
+unfoldable pub least : List Cost → Choice
+least ws = bettering noChoice ws
+
+-- a cost that no list has, for a place past its end
+abbrev pub noCost : Cost
+noCost = record { block = 0; loss = 0; mark = 0 }
 
 unfoldable pub choice : Picture → Choice
 choice p = least (weighings p)
@@ -56,12 +69,12 @@ unfoldable pub forestOf : Picture → (ℕ → Bool) → List Node
 forestOf p held = forest (joins (p .links)) held (slotCount p)
 
 -- a candidate's section: its block, loss and mark, and the forest with that block evicted
-unfoldable pub sectionFields : Edition → Picture → Weighed → List Field
+unfoldable pub sectionFields : Edition → Picture → Cost → List Field
 sectionFields e p w = fieldsOf sectionWidths (w .block ∷ w .loss ∷ w .mark ∷ []) ++ forestFields e (forestOf p (heldWithout p (w .block)))
 
 unfoldable pub evidenceFields : Edition → Picture → List Field
 evidenceFields e p =
-    let ws : List Weighed = weighings p in
+    let ws : List Cost = weighings p in
     headFields e (least ws) (length ws) (servedWeight p) ++ (forestFields e (forestOf p (isHeld p)) ++ flat (map (sectionFields e p) ws))
 
 -- the evidence, byte for byte

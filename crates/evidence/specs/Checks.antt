@@ -1,44 +1,57 @@
 -- What a check finds in evidence from anywhere: the number of the first fault, in the order of document 01. Assumes nothing.
 use mathlib.Core.Bool.{Bool, not, _&&_, _||_, cond}
 use mathlib.Core.List.{List, [], _∷_, map}
-use Prim.Native.Nat.{ℕ, _+_}
+use Prim.Native.Nat.{ℕ, suc, _+_}
 use lib.Dec.{eqb, leb}
 use lib.ListN.{length, getD}
 use Rattle.lists.specs.Lists.{range, on, first, sum, all, any}
-use Rattle.graph.specs.Rounds.{Node}
+use Rattle.graph.specs.declared.Node.{Node}
 use Rattle.graph.specs.Kept.{nodeOf}
 use Rattle.picture.specs.declared.Link.{Link}
 use Rattle.picture.specs.Layout.{Edition, editionOf, fieldIn}
 use Rattle.picture.specs.Picture.{Picture, pictureOf, rows}
 use Rattle.picture.specs.Faults.{pictureFault}
 use Rattle.network.specs.Words.{slotCount, isHeld, heldWithout, joins}
-use Rattle.network.specs.Tests.{Weighed, servedWeight, candidates}
-use Rattle.evidence.specs.Layout.{headWidths, nodeWidths, sectionWidths, sectionAt, evidenceBytes}
-use Rattle.evidence.specs.Canonical.{Choice, weighings, least}
+use Rattle.network.specs.declared.Cost.{Cost}
+use Rattle.network.specs.Tests.{servedWeight, candidates}
+use Rattle.evidence.specs.Layout.{headWidths, nodeWidths, sectionWidths, sectionAt, forestAt, evidenceBytes}
+use Rattle.evidence.specs.declared.Choice.{Choice}
+use Rattle.evidence.specs.declared.Head.{Head}
+use Rattle.evidence.specs.Canonical.{noCost, weighings, least}
 
 -- ---- what the bytes say
 
--- field k of the head: 0 edition, 1 verdict, 2 block, 3 candidate count, 4 served weight, 5 loss
-unfoldable pub headIn : List ℕ → ℕ → ℕ
-headIn ev k = fieldIn ev headWidths 0 k
+-- the head: edition, verdict, block, candidate count, served weight, loss
+unfoldable pub headIn : List ℕ → Head
+headIn ev =
+    record {
+      edition = fieldIn ev headWidths 0 0;
+      verdict = fieldIn ev headWidths 0 1;
+      block = fieldIn ev headWidths 0 2;
+      count = fieldIn ev headWidths 0 3;
+      served = fieldIn ev headWidths 0 4;
+      loss = fieldIn ev headWidths 0 5;
+    }
 
--- field k of section i: 0 block, 1 loss, 2 mark
-unfoldable pub sectionIn : Edition → ℕ → List ℕ → ℕ → ℕ → ℕ
-sectionIn e n ev i k = fieldIn ev sectionWidths (sectionAt e n i) k
+-- what section i states: its block, loss and mark
+unfoldable pub sectionIn : Edition → ℕ → List ℕ → ℕ → Cost
+sectionIn e n ev i =
+    let at : ℕ = sectionAt e n i in
+    record { block = fieldIn ev sectionWidths at 0; loss = fieldIn ev sectionWidths at 1; mark = fieldIn ev sectionWidths at 2 }
 
 -- the node from bit q on, and the n nodes from there on
-unfoldable pub nodeIn : Edition → List ℕ → ℕ → Node
-nodeIn e ev q = record { parent = fieldIn ev (nodeWidths e) q 0; depth = fieldIn ev (nodeWidths e) q 1 }
+unfoldable pub nodeAt : Edition → List ℕ → ℕ → Node
+nodeAt e ev q = record { parent = fieldIn ev (nodeWidths e) q 0; depth = fieldIn ev (nodeWidths e) q 1 }
 
 unfoldable pub forestIn : Edition → ℕ → List ℕ → ℕ → List Node
-forestIn e n ev q = rows (nodeIn e ev) q (sum (nodeWidths e)) n
+forestIn e n ev q = rows (nodeAt e ev) q (sum (nodeWidths e)) n
 
 -- the first forest, and that of section i
 unfoldable pub firstForest : Edition → ℕ → List ℕ → List Node
-firstForest e n ev = forestIn e n ev (sum headWidths)
+firstForest e n ev = forestIn e n ev (forestAt e n 0)
 
 unfoldable pub sectionForest : Edition → ℕ → List ℕ → ℕ → List Node
-sectionForest e n ev i = forestIn e n ev (sectionAt e n i + sum sectionWidths)
+sectionForest e n ev i = forestIn e n ev (forestAt e n (suc i))
 
 -- ---- 14: the rules of a forest
 
@@ -68,38 +81,38 @@ formRight e p ev =
     let cs : List ℕ = candidates p in
     let n : ℕ = slotCount p in
     eqb (length ev) (evidenceBytes e n (length cs))
-    && (eqb (headIn ev 0) (e .number) && (leb (headIn ev 1) 1 && (eqb (headIn ev 3) (length cs)
-    && all (λ i. eqb (sectionIn e n ev i 0) (getD cs i 0) && leb (sectionIn e n ev i 2) 1) (range 0 (length cs)))))
+    && (eqb (headIn ev .edition) (e .number) && (leb (headIn ev .verdict) 1 && (eqb (headIn ev .count) (length cs)
+    && all (λ i. eqb (sectionIn e n ev i .block) (getD cs i 0) && leb (sectionIn e n ev i .mark) 1) (range 0 (length cs)))))
 
 -- 14 and 15 of section i
-unfoldable pub sectionFault : Edition → Picture → List ℕ → List Weighed → ℕ → ℕ
+unfoldable pub sectionFault : Edition → Picture → List ℕ → List Cost → ℕ → ℕ
 sectionFault e p ev ws i =
     let n : ℕ = slotCount p in
-    let w : Weighed = getD ws i (record { block = 0; loss = 0; mark = 0 }) in
+    let w : Cost = getD ws i noCost in
     first
     (on (not (forestRight p (heldWithout p (w .block)) (sectionForest e n ev i))) 14
-    ∷ on (not (eqb (sectionIn e n ev i 1) (w .loss) && eqb (sectionIn e n ev i 2) (w .mark))) 15
+    ∷ on (not (eqb (sectionIn e n ev i .loss) (w .loss) && eqb (sectionIn e n ev i .mark) (w .mark))) 15
     ∷ [])
 
 -- 16: the verdict, its block and its loss are as the sections imply. Any least admissible candidate will do
-unfoldable pub verdictRight : List ℕ → List Weighed → Bool
+unfoldable pub verdictRight : List ℕ → List Cost → Bool
 verdictRight ev ws =
     let c : Choice = least ws in
-    eqb (headIn ev 1) (c .verdict)
-    && (eqb (headIn ev 5) (c .loss)
-    && cond (eqb (c .verdict) 0) (eqb (headIn ev 2) 0) (any (λ w. eqb (w .block) (headIn ev 2) && (eqb (w .mark) 0 && eqb (w .loss) (c .loss))) ws))
+    eqb (headIn ev .verdict) (c .verdict)
+    && (eqb (headIn ev .loss) (c .loss)
+    && cond (eqb (c .verdict) 0) (eqb (headIn ev .block) 0) (any (λ w. eqb (w .block) (headIn ev .block) && (eqb (w .mark) 0 && eqb (w .loss) (c .loss))) ws))
 
 -- the number of the first fault, or 0 where the evidence passes for the picture
 unfoldable pub checkFault : List ℕ → List ℕ → ℕ
 checkFault bs ev =
     let e : Edition = editionOf bs in
     let p : Picture = pictureOf bs in
-    let ws : List Weighed = weighings p in
+    let ws : List Cost = weighings p in
     first
     (pictureFault bs
     ∷ on (not (formRight e p ev)) 13
     ∷ on (not (forestRight p (isHeld p) (firstForest e (slotCount p) ev))) 14
-    ∷ on (not (eqb (headIn ev 4) (servedWeight p))) 15
+    ∷ on (not (eqb (headIn ev .served) (servedWeight p))) 15
     ∷ first (map (sectionFault e p ev ws) (range 0 (length ws)))
     ∷ on (not (verdictRight ev ws)) 16
     ∷ [])

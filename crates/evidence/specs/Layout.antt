@@ -1,6 +1,6 @@
 -- The layout of evidence: the widths of its fields in their order, and where each section starts. Assumes nothing.
 use mathlib.Core.List.{List, [], _∷_}
-use Prim.Native.Nat.{ℕ, _+_, _*_, _/_}
+use Prim.Native.Nat.{ℕ, zero, suc, _+_, _*_, _/_}
 use Rattle.lists.specs.Lists.{sum}
 use Rattle.picture.specs.Layout.{Edition}
 
@@ -27,10 +27,15 @@ sectionBits e n = sum sectionWidths + forestBits e n
 unfoldable pub sectionAt : Edition → ℕ → ℕ → ℕ
 sectionAt e n i = sum headWidths + forestBits e n + i * sectionBits e n
 
+-- where forest k starts: forest 0 is the first one, behind the head; forest i + 1 is that of section i, behind what the section has before it
+unfoldable pub forestAt : Edition → ℕ → ℕ → ℕ
+forestAt e n zero = sum headWidths
+forestAt e n (suc i) = sectionAt e n i + sum sectionWidths
+
 -- the length in bytes for c candidates: 9 + 2n + C(5 + 2n) in edition 1
 unfoldable pub evidenceBytes : Edition → ℕ → ℕ → ℕ
 evidenceBytes e n c = sectionAt e n c / 8
 
 -- the longest evidence, in bytes
-abbrev pub evidenceMost : ℕ
-evidenceMost = 29589
+abbrev pub evidenceMax : ℕ
+evidenceMax = 29589

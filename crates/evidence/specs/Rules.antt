@@ -17,11 +17,11 @@ use Rattle.evidence.specs.Checks.{headIn, sectionIn, firstForest, sectio
 -- 13: "evidence length or edition wrong, C not the candidate count, a section's block not the next candidate, verdict or mark over 1"
 pub record Form (e : Edition) (p : Picture) (ev : List ℕ) : Type 0 where
   pub size : length ev ≡ evidenceBytes e (slotCount p) (length (candidates p))
-  pub edition : headIn ev 0 ≡ e .number
-  pub verdict : headIn ev 1 ≤ 1
-  pub count : headIn ev 3 ≡ length (candidates p)
-  pub blocks : (i : ℕ) → i < length (candidates p) → sectionIn e (slotCount p) ev i 0 ≡ getD (candidates p) i 0
-  pub marks : (i : ℕ) → i < length (candidates p) → sectionIn e (slotCount p) ev i 2 ≤ 1
+  pub edition : headIn ev .edition ≡ e .number
+  pub verdict : headIn ev .verdict ≤ 1
+  pub count : headIn ev .count ≡ length (candidates p)
+  pub blocks : (i : ℕ) → i < length (candidates p) → sectionIn e (slotCount p) ev i .block ≡ getD (candidates p) i 0
+  pub marks : (i : ℕ) → i < length (candidates p) → sectionIn e (slotCount p) ev i .mark ≤ 1
 
 -- 14 of the section of block b: its forest keeps the rules with that block evicted
 abbrev pub SectionForest : Edition → Picture → List ℕ → ℕ → ℕ → Type 0
@@ -29,16 +29,16 @@ SectionForest e p ev i b = ForestKept (joins (p .links)) (heldWithout p b) (slot
 
 -- 15 of the section of block b: its loss and mark are those by chains
 pub record Numbers (e : Edition) (p : Picture) (ev : List ℕ) (i b : ℕ) : Type 0 where
-  pub loss : Loss p b (sectionIn e (slotCount p) ev i 1)
-  pub marked : sectionIn e (slotCount p) ev i 2 ≡ 1 → CutsProtected p b
-  pub unmarked : CutsProtected p b → sectionIn e (slotCount p) ev i 2 ≡ 1
+  pub loss : Loss p b (sectionIn e (slotCount p) ev i .loss)
+  pub marked : sectionIn e (slotCount p) ev i .mark ≡ 1 → CutsProtected p b
+  pub unmarked : CutsProtected p b → sectionIn e (slotCount p) ev i .mark ≡ 1
 
 pub record Section (e : Edition) (p : Picture) (ev : List ℕ) (i b : ℕ) : Type 0 where
   pub forest : SectionForest e p ev i b
   pub numbers : Numbers e p ev i b
 
 -- 16 where a block is named: a candidate that cuts no protected endpoint, with its loss, and none such loses less
-pub record Named (p : Picture) (block loss : ℕ) : Type 0 where
+pub record LeastAdmissible (p : Picture) (block loss : ℕ) : Type 0 where
   pub candidate : Candidate p block
   pub admissible : Admissible p block
   pub stated : Loss p block loss
@@ -46,7 +46,7 @@ pub record Named (p : Picture) (block loss : ℕ) : Type 0 where
 
 -- 16: verdict 1 with such a block, or verdict 0 with block and loss 0 where every candidate cuts a protected endpoint
 pub data Verdict (p : Picture) : ℕ → ℕ → ℕ → Type 0 where
-  chosen : {block loss : ℕ} → Named p block loss → Verdict p 1 block loss
+  chosen : {block loss : ℕ} → LeastAdmissible p block loss → Verdict p 1 block loss
   none : ((b : ℕ) → Candidate p b → CutsProtected p b) → Verdict p 0 0 0
 
 -- ---- the rules with their numbers, in the order in which they are judged: "picture, 13, first forest 14, served weight 15, then per
@@ -65,8 +65,8 @@ module _ (e : Edition) (p : Picture) (ev : List ℕ) where
   evidenceRulesWith =
       record { number = 13; holds = Form e p ev }
       ∷ record { number = 14; holds = ForestKept (joins (p .links)) (isHeld p) (slotCount p) (firstForest e (slotCount p) ev) }
-      ∷ record { number = 15; holds = ServedWeight p (isHeld p) (headIn ev 4) }
-      ∷ (sectionRules 0 (length (candidates p)) ++ (record { number = 16; holds = Verdict p (headIn ev 1) (headIn ev 2) (headIn ev 5) } ∷ []))
+      ∷ record { number = 15; holds = ServedWeight p (isHeld p) (headIn ev .served) }
+      ∷ (sectionRules 0 (length (candidates p)) ++ (record { number = 16; holds = Verdict p (headIn ev .verdict) (headIn ev .block) (headIn ev .loss) } ∷ []))
 
 -- the picture's, and then those of the evidence
 unfoldable pub checkRules : List ℕ → List ℕ → List Rule
@@ -77,6 +77,6 @@ pub record Passes (bs ev : List ℕ) : Type 0 where
   pub accepted : pictureFault bs ≡ 0
   pub form : Form (editionOf bs) (pictureOf bs) ev
   pub forest : ForestKept (joins (pictureOf bs .links)) (isHeld (pictureOf bs)) (slotCount (pictureOf bs)) (firstForest (editionOf bs) (slotCount (pictureOf bs)) ev)
-  pub served : ServedWeight (pictureOf bs) (isHeld (pictureOf bs)) (headIn ev 4)
+  pub served : ServedWeight (pictureOf bs) (isHeld (pictureOf bs)) (headIn ev .served)
   pub sections : (i : ℕ) → i < length (candidates (pictureOf bs)) → Section (editionOf bs) (pictureOf bs) ev i (getD (candidates (pictureOf bs)) i 0)
-  pub verdict : Verdict (pictureOf bs) (headIn ev 1) (headIn ev 2) (headIn ev 5)
+  pub verdict : Verdict (pictureOf bs) (headIn ev .verdict) (headIn ev .block) (headIn ev .loss)

@@ -1,10 +1,13 @@
-// Evidence for a choice: its layout as the numbers that the code uses, and where a section starts. `specs/Layout.antt` has the widths that
-// the contracts cite.
+// Evidence for a choice: its layout as the numbers that the code uses, what it says at each place, and the order of choice.
+// `specs/Layout.antt` has the widths that the contracts cite.
 ghost use mathlib.Core.Path.{_≡_};
 ghost use Prim.Native.Nat.{_≤_};
-ghost use Rattle.rows.specs.Rows.{slotsMost};
+ghost use Rattle.rows.specs.Rows.{slotsMax};
 ghost use Rattle.picture.specs.Layout.{edition1};
-ghost use Rattle.evidence.specs.Layout.{sectionAt};
+ghost use Rattle.evidence.specs.Layout.{sectionBits, sectionAt, forestAt};
+ghost use Rattle.evidence.specs.Canonical.{bettered};
+ghost use Rattle.evidence.specs.Checks.{headIn, sectionIn};
+use network::Cost;
 use picture::BLOCKS_MAX;
 use picture::SLOTS_MAX;
 
@@ -36,12 +39,12 @@ pub const LOSS_AT: usize = SERVED_AT + WEIGHT_BITS;
 
 pub const HEAD_BITS: usize = LOSS_AT + WEIGHT_BITS;
 
-// The same of a section, up to its forest.
+// The same of a section: what it has before its forest is its head.
 pub const SECTION_LOSS_AT: usize = BLOCK_BITS;
 
 pub const SECTION_MARK_AT: usize = SECTION_LOSS_AT + WEIGHT_BITS;
 
-pub const SECTION_BITS: usize = SECTION_MARK_AT + MARK_BITS;
+pub const SECTION_HEAD_BITS: usize = SECTION_MARK_AT + MARK_BITS;
 
 // A node of a forest.
 pub const NODE_BITS: usize = LOCATION_BITS + LOCATION_BITS;
@@ -51,22 +54,109 @@ pub const BYTE_BITS: usize = 8;
 
 pub const HEAD_BYTES: usize = HEAD_BITS / BYTE_BITS;
 
-pub const SECTION_BYTES: usize = SECTION_BITS / BYTE_BITS;
+pub const SECTION_HEAD_BYTES: usize = SECTION_HEAD_BITS / BYTE_BITS;
 
 pub const NODE_BYTES: usize = NODE_BITS / BYTE_BITS;
 
 // The longest evidence, in bytes: 29,589.
-pub const EVIDENCE_BYTES: usize = HEAD_BYTES
+pub const EVIDENCE_MAX: usize = HEAD_BYTES
     + SLOTS_MAX * NODE_BYTES
-    + BLOCKS_MAX * (SECTION_BYTES + SLOTS_MAX * NODE_BYTES);
+    + BLOCKS_MAX * (SECTION_HEAD_BYTES + SLOTS_MAX * NODE_BYTES);
 
 // The edition that is written and taken.
 pub const EDITION: usize = 1;
 
+// What the head says.
+pub struct Head {
+    pub edition: usize,
+    pub verdict: usize,
+    pub block: usize,
+    pub count: usize,
+    pub served: usize,
+    pub loss: usize,
+}
+
+// A choice: verdict 1 with a block and its loss, or 0, 0 and 0.
+pub struct Choice {
+    pub verdict: usize,
+    pub block: usize,
+    pub loss: usize,
+}
+
+// A part of the evidence, in bytes.
+pub struct Part {
+    pub start: usize,
+    pub size: usize,
+}
+
+// The bits of a section for n slots.
+pub fn section_bits(n: usize) -> usize
+    requires { ⌜ n ≤ slotsMax ⌝ }
+    ensures { λ r. ⌜ r ≡ sectionBits edition1 n ⌝ }
+{
+    SECTION_HEAD_BITS + n * NODE_BITS
+}
+
 // Where section i starts, in bits.
 pub fn section_at(n: usize, i: usize) -> usize
-    requires { ⌜ (n ≤ slotsMost) × (i ≤ 255) ⌝ }
+    requires { ⌜ (n ≤ slotsMax) × (i ≤ 255) ⌝ }
     ensures { λ r. ⌜ r ≡ sectionAt edition1 n i ⌝ }
 {
-    HEAD_BITS + n * NODE_BITS + i * (SECTION_BITS + n * NODE_BITS)
+    HEAD_BITS + n * NODE_BITS + i * section_bits(n)
+}
+
+// Where forest k starts, in bits: forest 0 is the first one, and forest i + 1 that of section i.
+pub fn forest_at(n: usize, k: usize) -> usize
+    requires { ⌜ (n ≤ slotsMax) × (k ≤ 255) ⌝ }
+    ensures { λ r. ⌜ r ≡ forestAt edition1 n k ⌝ }
+{
+    HEAD_BITS + k * section_bits(n)
+}
+
+// The head of evidence.
+pub fn head_of(ev: &[u8]) -> Head
+    ensures { λ r. ⌜ r ≡ headIn (now (ev .entry)) ⌝ }
+{
+    Head {
+        edition: bits::field(ev, 0, EDITION_BITS),
+        verdict: bits::field(ev, VERDICT_AT, VERDICT_BITS),
+        block: bits::field(ev, BLOCK_AT, BLOCK_BITS),
+        count: bits::field(ev, COUNT_AT, COUNT_BITS),
+        served: bits::field(ev, SERVED_AT, WEIGHT_BITS),
+        loss: bits::field(ev, LOSS_AT, WEIGHT_BITS),
+    }
+}
+
+// What section i of evidence for n slots states.
+pub fn section_of(ev: &[u8], n: usize, i: usize) -> Cost
+    requires { ⌜ (n ≤ slotsMax) × (i ≤ 255) ⌝ }
+    ensures { λ r. ⌜ r ≡ sectionIn edition1 n (now (ev .entry)) i ⌝ }
+{
+    let at = section_at(n, i);
+    Cost {
+        block: bits::field(ev, at, BLOCK_BITS),
+        loss: bits::field(ev, at + SECTION_LOSS_AT, WEIGHT_BITS),
+        mark: bits::field(ev, at + SECTION_MARK_AT, MARK_BITS),
+    }
+}
+
+// The choice with one candidate more: it is taken where it cuts no protected endpoint, and none was chosen before or one that loses more.
+pub fn better(c: Choice, w: Cost) -> Choice
+    ensures { λ r. ⌜ r ≡ bettered c w ⌝ }
+{
+    if w.mark != 0 {
+        return c;
+    }
+    let this = Choice {
+        verdict: 1,
+        block: w.block,
+        loss: w.loss,
+    };
+    if c.verdict == 0 {
+        return this;
+    }
+    if w.loss < c.loss {
+        return this;
+    }
+    c
 }

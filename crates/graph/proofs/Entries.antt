@@ -11,7 +11,7 @@ use lib.Count.{trailingZeros}
 use lib.Dec.{T, eqb, eqb→eq}
 use lib.ListN.{length, getD, set, length-set}
 use lib.Seq.{getD-set-same, getD-set-other}
-use Rattle.rows.specs.Rows.{inWord, slotsMost}
+use Rattle.rows.specs.Rows.{inWord, slotsMax}
 use Rattle.graph.specs.Sweeps.{Whole, Entered}
 use Rattle.lists.proofs.Tests.{eq-T}
 use Rattle.rows.proofs.Parts.{done, Union, done-none, done-more, done-marks, marks-done}
@@ -19,7 +19,7 @@ use Rattle.rows.proofs.Words.{WordLeft, word-begun, word-picked, word-next, non
 
 module _ {u d : ℕ} {parent depth parent′ depth′ : List ℕ} where
   -- one more entry
-  entered-more : (a : ℕ) {before after : ℕ → Bool} → Union before (eqb a) after → a ≤ slotsMost
+  entered-more : (a : ℕ) {before after : ℕ → Bool} → Union before (eqb a) after → a ≤ slotsMax
       → Entered before u d parent depth parent′ depth′ → Entered after u d parent depth (set parent′ a u) (set depth′ a d)
   entered-more a {before} {after} both l e =
       record {
@@ -64,7 +64,7 @@ module _ {word base u d : ℕ} {parent₀ depth₀ : List ℕ} where
       none = done-none (inWord word base) (inWord word base) (λ v t. t)
 
   module _ {w : ℕ} {parent depth : List ℕ} (s : Entering word base u d w parent₀ depth₀ parent depth) where
-    pub hit : (some : w ≡ 0 → ⊥) → base + trailingZeros 64 w ≤ slotsMost
+    pub hit : (some : w ≡ 0 → ⊥) → base + trailingZeros 64 w ≤ slotsMax
         → Entering word base u d (bitAnd w (w - 1)) parent₀ depth₀ (set parent (base + trailingZeros 64 w) u) (set depth (base + trailingZeros 64 w) d)
     hit some inside =
         record {

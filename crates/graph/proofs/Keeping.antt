@@ -12,7 +12,8 @@ use lib.ListN.{length, List·getD-eq-default}
 use lib.Seq.{ext-getD}
 use Rattle.lists.specs.Lists.{item}
 use Rattle.graph.specs.Chains.{Chain, origin, step, Reached, Fewest, Entry, unreached, reached}
-use Rattle.graph.specs.Rounds.{Node, forest}
+use Rattle.graph.specs.declared.Node.{Node}
+use Rattle.graph.specs.Rounds.{forest}
 use Rattle.graph.specs.Kept.{nodeOf, In, NodeKept, outside, inside, ForestKept}
 use Rattle.graph.proofs.Chains.{chain-none, chain-held, origin-fewest, fewest-one}
 use Rattle.graph.proofs.Forests.{fewest-reached, entry-one}

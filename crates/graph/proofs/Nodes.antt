@@ -16,7 +16,8 @@ use Rattle.lists.proofs.Ranges.{length-range, getD-map-range, range-any}
 use Rattle.lists.proofs.Searches.{place-holds, place-first, lowest-holds, lowest-first, lowest-le}
 use Rattle.lists.proofs.Faults.{on-pass, on-none, on-le}
 use Rattle.graph.specs.Chains.{Chain, Reached, Fewest, Lowest, Entry, unreached, reached}
-use Rattle.graph.specs.Rounds.{Node, within, reachedIn, levels, depthIn, reachedBy, nodeIn, forest}
+use Rattle.graph.specs.declared.Node.{Node}
+use Rattle.graph.specs.Rounds.{within, reachedIn, levels, depthIn, reachedBy, nodeIn, forest}
 use Rattle.graph.proofs.Chains.{fewest-one}
 use Rattle.graph.proofs.Steps.{last-step, last-fewest}
 use Rattle.graph.proofs.Marking.{Marked, marked-chain, chain-marked}

@@ -10,7 +10,7 @@ use native.Mathlib.Numerals.{add-one}
 use lib.Bits.{bitOr}
 use lib.Dec.{T, eqb, eqb→eq}
 use lib.ListN.{length, getD, set, replicate, length-replicate}
-use Rattle.rows.specs.Rows.{marked, linkedIn, locationsMost, slotsMost, rowWords, Differ}
+use Rattle.rows.specs.Rows.{marked, linkedIn, locationsMax, slotsMax, rowWords, Differ}
 use Rattle.graph.specs.Held.{heldIn, SlotsOnly}
 use Rattle.graph.specs.Steps.{Walked}
 use Rattle.graph.specs.Sweeps.{Locations, Ready, Swept}
@@ -23,7 +23,7 @@ use Rattle.graph.proofs.Held.{slot-held, held-within}
 
 -- d levels are walked
 pub record Walking (links : List (List ℕ)) (held : List ℕ) (d : ℕ) (frontier fresh parent depth : List ℕ) : Type 0 where
-  pub low : d ≤ slotsMost
+  pub low : d ≤ slotsMax
   pub ready : Ready fresh parent depth
   pub levels : Levels (linkedIn links) (heldIn held) d (marked frontier) (marked fresh) (λ v. getD parent v 0) (λ v. getD depth v 0)
 
@@ -34,7 +34,7 @@ zeros-at (suc n) (suc v) = zeros-at n v
 
 module _ {links : List (List ℕ)} {held : List ℕ} (only : SlotsOnly held) where
   -- the frontier is the origin
-  pub begun : length held ≡ rowWords → Walking links held 0 (set (replicate rowWords 0) 0 1) held (replicate locationsMost 0) (replicate locationsMost 0)
+  pub begun : length held ≡ rowWords → Walking links held 0 (set (replicate rowWords 0) 0 1) held (replicate locationsMax 0) (replicate locationsMax 0)
   begun l =
       record {
         low = zero-le;
@@ -42,7 +42,7 @@ module _ {links : List (List ℕ)} {held : List ℕ} (only : SlotsOnly held) whe
             record {
               words = l;
               locations = record { within = only .within };
-              whole = record { parents = length-replicate {A = ℕ} locationsMost 0; depths = length-replicate {A = ℕ} locationsMost 0 };
+              whole = record { parents = length-replicate {A = ℕ} locationsMax 0; depths = length-replicate {A = ℕ} locationsMax 0 };
             };
         levels =
             levels-begun
@@ -50,8 +50,8 @@ module _ {links : List (List ℕ)} {held : List ℕ} (only : SlotsOnly held) whe
             (rw (origin-alone 0) tt)
             (is-false (marked held 0) (λ t. absurd (omega (arith, only .above 0 t))))
             (slot-held held)
-            (zeros-at locationsMost)
-            (zeros-at locationsMost);
+            (zeros-at locationsMax)
+            (zeros-at locationsMax);
       }
     where
       origin-alone : (v : ℕ) → marked (set (replicate rowWords 0) 0 1) v ≡ eqb v 0
@@ -63,10 +63,10 @@ module _ {links : List (List ℕ)} {held : List ℕ} (only : SlotsOnly held) whe
     -- what the frontier marks ends a chain, so it is a location
     pub frontier-locations : Locations (marked frontier)
     frontier-locations =
-        record { within = λ v t. chain-within slotsMost (held-within only) (w .levels .edge .deep v t .chain) }
+        record { within = λ v t. chain-within slotsMax (held-within only) (w .levels .edge .deep v t .chain) }
 
     -- one more level is swept
-    pub next : {frontier′ fresh′ parent′ depth′ : List ℕ} → d < slotsMost → Swept (marked frontier) (linkedIn links) (d + 1) fresh parent depth fresh′ parent′ depth′
+    pub next : {frontier′ fresh′ parent′ depth′ : List ℕ} → d < slotsMax → Swept (marked frontier) (linkedIn links) (d + 1) fresh parent depth fresh′ parent′ depth′
         → Differ fresh fresh′ frontier′ → Walking links held (d + 1) frontier′ fresh′ parent′ depth′
     next l s t =
         record {
@@ -76,11 +76,11 @@ module _ {links : List (List ℕ)} {held : List ℕ} (only : SlotsOnly held) whe
         }
 
     -- the frontier is empty or the levels are as many as the slots: what is taken from the held slots is reached, with the origin
-    pub ended : {row : List ℕ} → 0 < length row → Differ held fresh row → ((v : ℕ) → ¬ T (marked frontier v)) ⊎ (slotsMost ≤ d)
+    pub ended : {row : List ℕ} → 0 < length row → Differ held fresh row → ((v : ℕ) → ¬ T (marked frontier v)) ⊎ (slotsMax ≤ d)
         → Walked (linkedIn links) (heldIn held) (marked (set row 0 (bitOr (getD row 0 0) 1))) parent depth
     ended {row} l t over =
         record {
-          entry = levels-entry (w .levels) slotsMost (held-within only) over;
+          entry = levels-entry (w .levels) slotsMax (held-within only) over;
           parent-origin = levels-origin (w .levels) .0;
           depth-origin = levels-origin (w .levels) .1;
           marks-reached =
@@ -90,7 +90,7 @@ module _ {links : List (List ℕ)} {held : List ℕ} (only : SlotsOnly held) whe
               (λ e. rw e (fewest-reached origin-fewest))
               (λ ne.
               ⊎-elim
-              (λ x. taken-reached (w .levels) slotsMost (held-within only) over (omega arith) (rw (row-is v (omega arith)) at x))
+              (λ x. taken-reached (w .levels) slotsMax (held-within only) over (omega arith) (rw (row-is v (omega arith)) at x))
               (λ z. absurd (ne (eqb→eq v 0 z)))
               (or-T (marked row v) (eqb v 0) (rw (with-origin row l v) at m)));
           reached-marks =
@@ -99,7 +99,7 @@ module _ {links : List (List ℕ)} {held : List ℕ} (only : SlotsOnly held) whe
               (by-cases
               (ℕ-discrete v 0)
               (λ e. T-or-r (marked row v) (eqb v 0) (eq-T v 0 e))
-              (λ ne. T-or-l (marked row v) (eqb v 0) (rw (row-is v (omega arith)) (reached-taken (w .levels) slotsMost (held-within only) over (omega arith) r))));
+              (λ ne. T-or-l (marked row v) (eqb v 0) (rw (row-is v (omega arith)) (reached-taken (w .levels) slotsMax (held-within only) over (omega arith) r))));
         }
       where
         row-is : (v : ℕ) → 0 < v → marked row v ≡ xor (heldIn held v) (marked fresh v)

@@ -3,7 +3,7 @@ use mathlib.Core.Bool.{Bool, _||_}
 use mathlib.Core.List.{List}
 use Prim.Native.Nat.{ℕ, _≤_, _<_}
 use lib.Dec.{T, eqb}
-use Rattle.rows.specs.Rows.{marked, slotsMost}
+use Rattle.rows.specs.Rows.{marked, slotsMax}
 
 -- a location is held: the origin always is, a slot where the row marks it
 unfoldable pub heldIn : List ℕ → ℕ → Bool
@@ -12,4 +12,4 @@ heldIn row v = eqb v 0 || marked row v
 -- every mark of a row is a slot's
 pub record SlotsOnly (row : List ℕ) : Type 0 where
   pub above : (v : ℕ) → T (marked row v) → 0 < v
-  pub within : (v : ℕ) → T (marked row v) → v ≤ slotsMost
+  pub within : (v : ℕ) → T (marked row v) → v ≤ slotsMax

@@ -9,7 +9,7 @@ use mathlib.Core.Path.{_≡_}
 use Prim.Native.Nat.{ℕ, _+_, _≤_}
 use lib.Dec.{T}
 use Rattle.lists.specs.Lists.{item}
-use Rattle.graph.specs.Rounds.{Node}
+use Rattle.graph.specs.declared.Node.{Node}
 
 -- slot v's node, counted from 1; the origin and what is no slot have parent 0 and depth 0
 unfoldable pub nodeOf : List Node → ℕ → Node

@@ -6,11 +6,7 @@ use Prim.Native.Nat.{ℕ, zero, suc, _+_}
 use lib.Dec.{eqb}
 use lib.ListN.{getD}
 use Rattle.lists.specs.Lists.{range, on, any, place, lowest}
-
--- an entry of a forest (01: the parent and the depth of a slot)
-pub record Node : Type 0 where
-  pub parent : ℕ
-  pub depth : ℕ
+use Rattle.graph.specs.declared.Node.{Node}
 
 module _ (linked : ℕ → ℕ → Bool) (held : ℕ → Bool) (n : ℕ) where
   -- one round more: marked already, or held and linked from a location that is marked

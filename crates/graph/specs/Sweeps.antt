@@ -5,16 +5,16 @@ use mathlib.Core.Path.{_≡_}
 use Prim.Native.Nat.{ℕ, _≤_}
 use lib.ListN.{length, getD}
 use lib.Dec.{T}
-use Rattle.rows.specs.Rows.{marked, locationsMost, slotsMost, rowWords}
+use Rattle.rows.specs.Rows.{marked, locationsMax, slotsMax, rowWords}
 
 -- the marks are locations': none is above the last slot
 pub record Locations (marks : ℕ → Bool) : Type 0 where
-  pub within : (v : ℕ) → T (marks v) → v ≤ slotsMost
+  pub within : (v : ℕ) → T (marks v) → v ≤ slotsMax
 
 -- the arrays of the entries have a place for every location
 pub record Whole (parent depth : List ℕ) : Type 0 where
-  pub parents : length parent ≡ locationsMost
-  pub depths : length depth ≡ locationsMost
+  pub parents : length parent ≡ locationsMax
+  pub depths : length depth ≡ locationsMax
 
 -- what the sweeps work on is as they need it: the row of the fresh slots has its words and marks no more than locations
 pub record Ready (fresh parent depth : List ℕ) : Type 0 where

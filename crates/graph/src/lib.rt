@@ -11,6 +11,13 @@ use rows::WORDS;
 // No chain of fewest links steps to a slot twice.
 const DEEPEST: u8 = SLOTS as u8;
 
+// An entry of a forest (01: the parent and the depth of a slot).
+pub struct Node {
+    pub parent: usize,
+    pub depth: usize,
+}
+
+// The entries of all locations, and a row of what is reached.
 pub struct Forest {
     pub parent: [u8; LOCATIONS],
     pub depth: [u8; LOCATIONS],

@@ -8,7 +8,7 @@ use lib.ListN.{length, take, drop, length-append}
 use lib.Seq.{take-append-seam}
 use Rattle.picture.specs.Picture.{pictureOf}
 use Rattle.picture.specs.Faults.{pictureFault}
-use Rattle.evidence.specs.Layout.{evidenceMost}
+use Rattle.evidence.specs.Layout.{evidenceMax}
 use Rattle.evidence.specs.Canonical.{evidenceOf}
 use Rattle.evidence.specs.Calls.{lengthFor, chooseFault, chosenBytes}
 use Rattle.evidence.proofs.Lengths.{length-most, choose-takes, chosen-evidence}
@@ -37,7 +37,7 @@ listing-front bs text e f =
 
 -- ---- what choose answers for an accepted picture and a buffer for the longest evidence
 
-module _ (bs buf : List ℕ) (ok : pictureFault bs ≡ 0) (long : length buf ≡ evidenceMost) where
+module _ (bs buf : List ℕ) (ok : pictureFault bs ≡ 0) (long : length buf ≡ evidenceMax) where
   -- the evidence has room, so nothing is wrong
   takes : chooseFault bs buf ≡ 0
   takes = choose-takes bs buf ok (omega (arith, length-most bs ok))

@@ -28,7 +28,7 @@ choice-named (suc k) block loss n = refl
 -- ---- how long a line is
 
 -- three words of six bytes, three numbers of eight digits and the end of the line are 43 bytes; the served weight takes fewer
-served-short : (ev : List ℕ) → length (servedLine (headIn ev 4)) ≤ 43
+served-short : (ev : List ℕ) → length (servedLine (headIn ev .served)) ≤ 43
 unfolding servedLine servedWord lineEnd headIn headWidths fieldIn sum
 served-short ev = simp length-append (omega (arith, item-short servedWord _ (field-small ev 24 24 refl (omega arith))))
 
@@ -60,7 +60,7 @@ module _ (n : ℕ) (ev : List ℕ) where
       ∙ ap (λ (j : ℕ). flat (map (sectionLine n ev) (range 0 i)) ++ sectionLine n ev j) (zero-add i)
 
   -- the served weight is told, and no section yet
-  pub telling-begun : {buf text : List ℕ} {at : ℕ} → Texted buf 0 (servedLine (headIn ev 4)) text at → Telling n ev text at text at 0
+  pub telling-begun : {buf text : List ℕ} {at : ℕ} → Texted buf 0 (servedLine (headIn ev .served)) text at → Telling n ev text at text at 0
   unfolding sectionLines range flat
   telling-begun {text = text} {at = at} t = record { texted = text-none text at (omega (arith, t .ends, t .room, text-long t)); low = omega (arith, t .ends, served-short ev) }
 

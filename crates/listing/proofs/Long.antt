@@ -7,14 +7,14 @@ use native.Mathlib.Omega.{arith}
 use native.Mathlib.Decide.{decLt}
 use lib.ListN.{length, take}
 use lib.Seq.{take-all}
-use Rattle.picture.specs.Layout.{pictureMost}
+use Rattle.picture.specs.Layout.{pictureMax}
 use Rattle.picture.specs.Faults.{pictureFault}
 use Rattle.picture.proofs.Long.{fault-same, faulty}
 use Rattle.listing.specs.Listing.{listing}
 use Rattle.listing.proofs.Answering.{listing-refused}
 
 -- any number of bytes over that of the longest picture will do
-listing-long : (m : ℕ) → pictureMost < m → (bs : List ℕ) → listing (take m bs) ≡ listing bs
+listing-long : (m : ℕ) → pictureMax < m → (bs : List ℕ) → listing (take m bs) ≡ listing bs
 listing-long m wide bs =
     by-cases (decLt m (length bs))
     (λ over.
@@ -23,5 +23,5 @@ listing-long m wide bs =
     (λ l. ap listing (take-all m bs (omega arith)))
 
 -- the listing of the bytes that the program reads is that of all the input
-pub long-listing : (bs : List ℕ) → listing (take (pictureMost + 1) bs) ≡ listing bs
-long-listing = listing-long (pictureMost + 1) (omega arith)
+pub long-listing : (bs : List ℕ) → listing (take (pictureMax + 1) bs) ≡ listing bs
+long-listing = listing-long (pictureMax + 1) (omega arith)

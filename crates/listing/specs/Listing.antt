@@ -5,8 +5,10 @@ use Prim.Native.Nat.{ℕ, zero, suc}
 use Rattle.lists.specs.Lists.{flat}
 use Rattle.picture.specs.Picture.{Picture, pictureOf}
 use Rattle.picture.specs.Faults.{pictureFault}
-use Rattle.network.specs.Tests.{Weighed, servedWeight}
-use Rattle.evidence.specs.Canonical.{Choice, weighings, least}
+use Rattle.network.specs.declared.Cost.{Cost}
+use Rattle.network.specs.Tests.{servedWeight}
+use Rattle.evidence.specs.declared.Choice.{Choice}
+use Rattle.evidence.specs.Canonical.{weighings, least}
 use Rattle.listing.specs.Text.{decimal}
 
 -- ---- the words, byte by byte
@@ -54,7 +56,7 @@ unfoldable pub servedLine : ℕ → List ℕ
 servedLine weight = item servedWord weight ++ lineEnd
 
 -- "block 0 lost 30 mark 1"
-unfoldable pub blockLine : Weighed → List ℕ
+unfoldable pub blockLine : Cost → List ℕ
 blockLine w = item blockWord (w .block) ++ (item lostWord (w .loss) ++ (item markWord (w .mark) ++ lineEnd))
 
 -- "choose 1 lost 12", or "choose none" for verdict 0
@@ -71,7 +73,7 @@ refusedLine number = item refusedWord number ++ lineEnd
 -- the served weight, the candidates in rising order, and the choice among them
 unfoldable pub planLines : Picture → List ℕ
 planLines p =
-    let ws : List Weighed = weighings p in
+    let ws : List Cost = weighings p in
     let c : Choice = least ws in
     servedLine (servedWeight p) ++ (flat (map blockLine ws) ++ choiceLine (c .verdict) (c .block) (c .loss))
 

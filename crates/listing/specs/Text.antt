@@ -8,8 +8,8 @@ use Rattle.lists.specs.Lists.{range, place}
 use Rattle.io.specs.Digits.{digits}
 
 -- room for the longest text
-abbrev pub textMost : ℕ
-textMost = 4096
+abbrev pub textMax : ℕ
+textMax = 4096
 
 -- how many digits n takes: the first k from 1 on with n below 10 to the k
 unfoldable pub places : ℕ → ℕ

@@ -9,11 +9,11 @@ use Rattle.listing.specs.Listing.{servedLine, blockLine, choiceLine}
 -- the line of section i, of evidence for n slots
 unfoldable pub sectionLine : ℕ → List ℕ → ℕ → List ℕ
 sectionLine n ev i =
-    blockLine (record { block = sectionIn edition1 n ev i 0; loss = sectionIn edition1 n ev i 1; mark = sectionIn edition1 n ev i 2 })
+    blockLine (record { block = sectionIn edition1 n ev i .block; loss = sectionIn edition1 n ev i .loss; mark = sectionIn edition1 n ev i .mark })
 
 -- the lines of the first k sections
 unfoldable pub sectionLines : ℕ → List ℕ → ℕ → List ℕ
 sectionLines n ev k = flat (map (sectionLine n ev) (range 0 k))
 
 unfoldable pub evidenceLines : ℕ → List ℕ → List ℕ
-evidenceLines n ev = servedLine (headIn ev 4) ++ (sectionLines n ev (headIn ev 3) ++ choiceLine (headIn ev 1) (headIn ev 2) (headIn ev 5))
+evidenceLines n ev = servedLine (headIn ev .served) ++ (sectionLines n ev (headIn ev .count) ++ choiceLine (headIn ev .verdict) (headIn ev .block) (headIn ev .loss))

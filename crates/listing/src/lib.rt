@@ -4,10 +4,10 @@ ghost use mathlib.Core.Path.{_≡_};
 ghost use mathlib.Core.List.{_++_};
 ghost use Prim.Native.Nat.{_+_, _^_, _≤_, _<_};
 ghost use lib.ListN.{length, drop};
-ghost use Rattle.rows.specs.Rows.{slotsMost};
+ghost use Rattle.rows.specs.Rows.{slotsMax};
 ghost use Rattle.picture.specs.Layout.{blocksMax};
 ghost use Rattle.evidence.specs.Checks.{headIn};
-ghost use Rattle.listing.specs.Text.{textMost, Texted};
+ghost use Rattle.listing.specs.Text.{textMax, Texted};
 ghost use Rattle.listing.specs.Listing.{item, servedLine, choiceLine, refusedLine, listing};
 ghost use Rattle.listing.specs.Told.{sectionLine, evidenceLines};
 use choose::Choosing;
@@ -15,7 +15,7 @@ use evidence::BLOCK_AT;
 use evidence::BLOCK_BITS;
 use evidence::COUNT_AT;
 use evidence::COUNT_BITS;
-use evidence::EVIDENCE_BYTES;
+use evidence::EVIDENCE_MAX;
 use evidence::LOSS_AT;
 use evidence::MARK_BITS;
 use evidence::SECTION_LOSS_AT;
@@ -27,7 +27,7 @@ use evidence::WEIGHT_BITS;
 use picture::Reading;
 
 // More than the longest text takes: 62 lines of at most 43 bytes.
-pub const TEXT_BYTES: usize = 4096;
+pub const TEXT_MAX: usize = 4096;
 
 // Puts a word into the text from byte `at` on, and gives where it ends.
 fn put_word(text: &mut [u8], at: usize, word: &[u8]) -> usize
@@ -54,9 +54,9 @@ fn put_item(text: &mut [u8], at: usize, word: &[u8], number: usize) -> usize
 }
 
 // Puts the line of the served weight that the evidence states.
-fn put_served(text: &mut [u8], at: usize, ev: &[u8]) -> usize
+fn put_served_line(text: &mut [u8], at: usize, ev: &[u8]) -> usize
     requires { ⌜ at + 43 ≤ length (now text) ⌝ }
-    ensures { λ r. ⌜ Texted (now (text .entry)) at (servedLine (headIn (now (ev .entry)) 4)) (now (text .exit)) r ⌝ }
+    ensures { λ r. ⌜ Texted (now (text .entry)) at (servedLine (headIn (now (ev .entry)) .served)) (now (text .exit)) r ⌝ }
 {
     let weight = bits::field(ev, SERVED_AT, WEIGHT_BITS);
     let then = put_item(text, at, b"served ", weight);
@@ -64,8 +64,8 @@ fn put_served(text: &mut [u8], at: usize, ev: &[u8]) -> usize
 }
 
 // Puts the line of section i.
-fn put_section(text: &mut [u8], at: usize, ev: &[u8], n: usize, i: usize) -> usize
-    requires { ⌜ (n ≤ slotsMost) × (i ≤ 255) × (at + 43 ≤ length (now text)) ⌝ }
+fn put_block_line(text: &mut [u8], at: usize, ev: &[u8], n: usize, i: usize) -> usize
+    requires { ⌜ (n ≤ slotsMax) × (i ≤ 255) × (at + 43 ≤ length (now text)) ⌝ }
     ensures { λ r. ⌜ Texted (now (text .entry)) at (sectionLine n (now (ev .entry)) i) (now (text .exit)) r ⌝ }
 {
     let q = evidence::section_at(n, i);
@@ -79,10 +79,10 @@ fn put_section(text: &mut [u8], at: usize, ev: &[u8], n: usize, i: usize) -> usi
 }
 
 // Puts the line of the choice.
-fn put_choice(text: &mut [u8], at: usize, ev: &[u8]) -> usize
+fn put_choice_line(text: &mut [u8], at: usize, ev: &[u8]) -> usize
     requires { ⌜ at + 43 ≤ length (now text) ⌝ }
     ensures { λ r.
-        ⌜ Texted (now (text .entry)) at (choiceLine (headIn (now (ev .entry)) 1) (headIn (now (ev .entry)) 2) (headIn (now (ev .entry)) 5))
+        ⌜ Texted (now (text .entry)) at (choiceLine (headIn (now (ev .entry)) .verdict) (headIn (now (ev .entry)) .block) (headIn (now (ev .entry)) .loss))
         (now (text .exit)) r ⌝ }
 {
     if bits::field(ev, VERDICT_AT, VERDICT_BITS) == 0 {
@@ -99,22 +99,22 @@ fn put_choice(text: &mut [u8], at: usize, ev: &[u8]) -> usize
 
 // Puts all lines that the evidence tells of a picture of n slots.
 fn put_lines(text: &mut [u8], ev: &[u8], n: usize) -> usize
-    requires { ⌜ (n ≤ slotsMost) × (headIn (now ev) 3 ≤ blocksMax) × (textMost ≤ length (now text)) ⌝ }
+    requires { ⌜ (n ≤ slotsMax) × (headIn (now ev) .count ≤ blocksMax) × (textMax ≤ length (now text)) ⌝ }
     ensures { λ r. ⌜ Texted (now (text .entry)) 0 (evidenceLines n (now (ev .entry))) (now (text .exit)) r ⌝ }
 {
     let count = bits::field(ev, COUNT_AT, COUNT_BITS);
-    let mut at = put_served(text, 0, ev);
+    let mut at = put_served_line(text, 0, ev);
     let mut i: usize = 0;
     while i < count {
-        at = put_section(text, at, ev, n, i);
+        at = put_block_line(text, at, ev, n, i);
         i += 1;
     }
-    put_choice(text, at, ev)
+    put_choice_line(text, at, ev)
 }
 
 // Puts the line of a refusal.
-fn put_refused(text: &mut [u8], number: u8) -> usize
-    requires { ⌜ textMost ≤ length (now text) ⌝ }
+fn put_refused_line(text: &mut [u8], number: u8) -> usize
+    requires { ⌜ textMax ≤ length (now text) ⌝ }
     ensures { λ r. ⌜ Texted (now (text .entry)) 0 (refusedLine number) (now (text .exit)) r ⌝ }
 {
     let then = put_item(text, 0, b"refused ", number as usize);
@@ -122,16 +122,16 @@ fn put_refused(text: &mut [u8], number: u8) -> usize
 }
 
 // Lists a picture of any bytes: the text from its first byte on, and its length.
-pub fn list(s: &[u8], text: &mut [u8; TEXT_BYTES]) -> usize
+pub fn list(s: &[u8], text: &mut [u8; TEXT_MAX]) -> usize
     ensures { λ r. ⌜ r ≡ length (listing (now (s .entry))) ⌝ }
     ensures { λ _. ⌜ now (text .exit) ≡ listing (now (s .entry)) ++ drop (length (listing (now (s .entry)))) (now (text .entry)) ⌝ }
 {
     match picture::read(s) {
-        Reading::Refused(number) => put_refused(text, number),
+        Reading::Refused(number) => put_refused_line(text, number),
         Reading::Accepted(h) => {
-            let mut space = [0u8; EVIDENCE_BYTES];
+            let mut space = [0u8; EVIDENCE_MAX];
             match choose::choose(s, &mut space) {
-                Choosing::Refused(number) => put_refused(text, number),
+                Choosing::Refused(number) => put_refused_line(text, number),
                 Choosing::Length(length) => put_lines(text, &space[..length], h.slots),
             }
         }

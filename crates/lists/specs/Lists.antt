@@ -31,9 +31,9 @@ lowest f [] = 0
 lowest f (x ∷ xs) = cond (f x) x (lowest f xs)
 
 -- what an answer tells: 0 and its values, or the number of a refusal alone
-unfoldable pub told : ℕ → List ℕ → List ℕ
-told zero vs = 0 ∷ vs
-told (suc k) vs = suc k ∷ []
+unfoldable pub outcome : ℕ → List ℕ → List ℕ
+outcome zero vs = 0 ∷ vs
+outcome (suc k) vs = suc k ∷ []
 
 -- two lists of numbers are equal
 unfoldable pub equal : List ℕ → List ℕ → Bool

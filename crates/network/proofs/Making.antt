@@ -11,7 +11,7 @@ use lib.Dec.{leb, ltb, eqb}
 use lib.ListN.{length, getD, take, replicate, length-replicate, getD-replicate, List·getD-eq-default}
 use Rattle.lists.proofs.Tests.{is-false}
 use Rattle.lists.proofs.Prefixes.{any-take-none, any-take-more, any-take-all}
-use Rattle.rows.specs.Rows.{marked, linkedIn, With, Linked, locationsMost, rowWords}
+use Rattle.rows.specs.Rows.{marked, linkedIn, With, Linked, locationsMax, rowWords}
 use Rattle.rows.proofs.Marks.{none-marked}
 use Rattle.picture.specs.declared.Link.{Link}
 use Rattle.picture.specs.Rules.{noLink}
@@ -45,9 +45,9 @@ abbrev pub Linking : List Link → List (List ℕ) → ℕ → Type 0
 Linking ls table i = RowsOf (joins (take i ls)) table
 
 module _ (ls : List Link) where
-  pub linking-begun : Linking ls (replicate locationsMost (replicate rowWords 0)) 0
+  pub linking-begun : Linking ls (replicate locationsMax (replicate rowWords 0)) 0
   unfolding joins
-  linking-begun = record { many = length-replicate locationsMost (replicate {A = ℕ} rowWords 0); same = λ x y. clear-table locationsMost rowWords x y ∙ sym (any-take-none noLink (leads x y) ls) }
+  linking-begun = record { many = length-replicate locationsMax (replicate {A = ℕ} rowWords 0); same = λ x y. clear-table locationsMax rowWords x y ∙ sym (any-take-none noLink (leads x y) ls) }
 
   -- a link that is marked a second time counts once: its mark is there already
   pub linking-next : (table table′ : List (List ℕ)) (i : ℕ) (l : Link) → Linking ls table i → i < length ls → l ≡ getD ls i noLink → Linked table (l .from) (l .to) table′

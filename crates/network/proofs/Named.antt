@@ -44,7 +44,7 @@ at-joins {ls} {a} {b} j =
 -- the marks are of locations 0 to n alone, so they tell what chains reach only where no link leads past n
 pub record Named (p : Picture) : Type 0 where
   pub links : (a b : ℕ) → T (joins (p .links) a b) → (a ≤ slotCount p) × (b ≤ slotCount p)
-  pub services : (a c : ℕ) → T (joins (p .services) a c) → (a ≤ slotCount p) × (1 ≤ c) × (c ≤ endpointCount p)
+  pub services : (a c : ℕ) → T (joins (p .serviceLinks) a c) → (a ≤ slotCount p) × (1 ≤ c) × (c ≤ endpointCount p)
 
 module _ (bs : List ℕ) where
   -- the counts are the header's
@@ -65,7 +65,7 @@ module _ (bs : List ℕ) where
             let j = joins-at (pictureOf bs .links) a b t in
             (omega (arith, slots-counted, l .from (j .at) (j .within)), omega (arith, slots-counted, l .to (j .at) (j .within)));
         services = λ a c t.
-            let j = joins-at (pictureOf bs .services) a c t in (
+            let j = joins-at (pictureOf bs .serviceLinks) a c t in (
               omega (arith, slots-counted, s .location (j .at) (j .within)),
               omega (arith, s .endpoint-some (j .at) (j .within)),
               omega (arith, endpoints-counted, s .endpoint-most (j .at) (j .within)),

@@ -15,8 +15,8 @@ use Rattle.network.proofs.Named.{Named, joins-at, at-joins}
 pub marked-served : (p : Picture) (held : ℕ → Bool) (c : ℕ) → T (served p (marks p held) c) → Served p held c
 unfolding served marks
 marked-served p held c t =
-    let r = any-at noLink (λ l. getD (marks p held) (l .from) false && eqb (l .to) c) (p .services) t in
-    let l = getD (p .services) (r .at) noLink in
+    let r = any-at noLink (λ l. getD (marks p held) (l .from) false && eqb (l .to) c) (p .serviceLinks) t in
+    let l = getD (p .serviceLinks) (r .at) noLink in
     let s = and-T (getD (marks p held) (l .from) false) (eqb (l .to) c) (r .passes) in
     record {
       location = l .from;
@@ -28,9 +28,9 @@ marked-served p held c t =
 pub served-marked : {p : Picture} {held : ℕ → Bool} {c : ℕ} → Named p → Served p held c → T (served p (marks p held) c)
 unfolding served marks
 served-marked {p} {held} {c} n s =
-    let j = joins-at (p .services) (s .location) c (s .serves) in
-    let l = getD (p .services) (j .at) noLink in
-    at-any noLink _ (p .services) (j .at) (j .within)
+    let j = joins-at (p .serviceLinks) (s .location) c (s .serves) in
+    let l = getD (p .serviceLinks) (j .at) noLink in
+    at-any noLink _ (p .serviceLinks) (j .at) (j .within)
     (T-and (getD (marks p held) (l .from) false) (eqb (l .to) c) (rw (j .from) (reached-marked (joins (p .links)) held (slotCount p) (n .links) (s .reached))) (eq-T (l .to) c (j .to)))
 
 module _ {p : Picture} (n : Named p) where

@@ -12,7 +12,7 @@ use lib.Dec.{T, leb, ltb, eqb, leb→le, ltb→lt, eqb·suc-zero}
 use lib.ListN.{length, List·getD-eq-default}
 use Rattle.lists.specs.Lists.{item}
 use Rattle.lists.proofs.Tests.{T?, is-false, and-T}
-use Rattle.rows.specs.Rows.{marked, locationsMost}
+use Rattle.rows.specs.Rows.{marked, locationsMax}
 use Rattle.graph.specs.Held.{heldIn}
 use Rattle.picture.specs.Picture.{Slot, Picture, slotOf}
 use Rattle.network.specs.Words.{slotCount, isHeld}
@@ -47,7 +47,7 @@ scanned-all f row v s h u = s .same u ∙ by-cases (T? (f u)) yes-there no-there
     no-there n = ap (λ (x : Bool). leb 1 u && (ltb u v && x)) (is-false (f u) n) ∙ false-last (leb 1 u) (ltb u v) ∙ sym (is-false (f u) n)
 
 -- every slot was looked at
-pub slots-looked : (p : Picture) (holding nearby : List ℕ) (v : ℕ) → length (p .slots) < v → v ≤ locationsMost → Scanned (isHeld p) holding v → Scanned (isNearHeld p) nearby v → SlotRowsOf p holding nearby
+pub slots-looked : (p : Picture) (holding nearby : List ℕ) (v : ℕ) → length (p .slots) < v → v ≤ locationsMax → Scanned (isHeld p) holding v → Scanned (isNearHeld p) nearby v → SlotRowsOf p holding nearby
 unfolding heldIn isHeld isNearHeld slotCount
 slots-looked p holding nearby v l m s r =
     record {

@@ -5,7 +5,7 @@ use mathlib.Core.Path.{_≡_}
 use Prim.Native.Nat.{ℕ, suc, _+_, _*_}
 use lib.Dec.{leb}
 use lib.ListN.{length, getD}
-use Rattle.rows.specs.Rows.{marked, linkedIn, locationsMost}
+use Rattle.rows.specs.Rows.{marked, linkedIn, locationsMax}
 use Rattle.graph.specs.Held.{heldIn, SlotsOnly}
 use Rattle.picture.specs.declared.Header.{Header}
 use Rattle.picture.specs.Picture.{Picture, slotOf, endpointOf}
@@ -14,7 +14,7 @@ use Rattle.network.specs.Words.{isHeld, joins, weightOf}
 
 -- rows that mark b in row a exactly where f says so
 pub record RowsOf (f : ℕ → ℕ → Bool) (table : List (List ℕ)) : Type 0 where
-  pub many : length table ≡ locationsMost
+  pub many : length table ≡ locationsMax
   pub same : (a b : ℕ) → linkedIn table a b ≡ f a b
 
 -- how many links the header says there are, or (true) service links
@@ -25,7 +25,7 @@ countOf true h = h .«service_links»
 -- what the rows of the links mark, each from its location, or (true) those of the service links, each from its endpoint
 abbrev pub tableOf : Bool → Picture → ℕ → ℕ → Bool
 tableOf false p = joins (p .links)
-tableOf true p = λ c a. joins (p .services) a c
+tableOf true p = λ c a. joins (p .serviceLinks) a c
 
 -- a slot that is held and near
 unfoldable pub isNearHeld : Picture → ℕ → Bool

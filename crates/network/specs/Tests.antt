@@ -8,6 +8,7 @@ use lib.ListN.{getD}
 use Rattle.lists.specs.Lists.{range, on, sum, any, filter}
 use Rattle.graph.specs.Rounds.{reachedIn}
 use Rattle.picture.specs.Picture.{Picture, slotOf, endpointOf}
+use Rattle.network.specs.declared.Cost.{Cost}
 use Rattle.network.specs.Words.{slotCount, endpointCount, blockCount, inBlock, isHeld, heldWithout, joins, weightOf}
 
 -- the marks of the locations that are reached
@@ -16,7 +17,7 @@ marks p held = reachedIn (joins (p .links)) held (slotCount p)
 
 -- an endpoint is served, by the marks of what is reached
 unfoldable pub served : Picture → List Bool → ℕ → Bool
-served p t c = any (λ l. getD t (l .from) false && eqb (l .to) c) (p .services)
+served p t c = any (λ l. getD t (l .from) false && eqb (l .to) c) (p .serviceLinks)
 
 -- it is served by the first marks and not by the second
 unfoldable pub cut : Picture → List Bool → List Bool → ℕ → Bool
@@ -30,12 +31,7 @@ unfoldable pub servedWeight : Picture → ℕ
 servedWeight p = let now : List Bool = marks p (isHeld p) in weightWhere p (served p now)
 
 -- what weighing a block gives: its loss, and its mark (1 if it cuts a protected endpoint, else 0)
-pub record Weighed : Type 0 where
-  pub block : ℕ
-  pub loss : ℕ
-  pub mark : ℕ
-
-unfoldable pub weighed : Picture → ℕ → Weighed
+unfoldable pub weighed : Picture → ℕ → Cost
 weighed p b =
     let now : List Bool = marks p (isHeld p) in
     let without : List Bool = marks p (heldWithout p b) in

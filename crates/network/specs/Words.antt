@@ -43,7 +43,7 @@ joins ls a b = any (λ l. eqb (l .from) a && eqb (l .to) b) ls
 -- an endpoint is served if some reached location has a service link (01: serving link) to it. `held` is what holds the bundle
 pub record Served (p : Picture) (held : ℕ → Bool) (c : ℕ) : Type 0 where
   pub location : ℕ
-  pub serves : T (joins (p .services) location c)
+  pub serves : T (joins (p .serviceLinks) location c)
   pub reached : Reached (joins (p .links)) held location
 
 -- evicting b cuts an endpoint that is served now and isn't once b's slots are not held

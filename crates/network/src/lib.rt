@@ -1,9 +1,9 @@
 // A picture's network as rows of marks: links, service links, held and near slots, blocks, and the endpoints' weights.
 ghost use mathlib.Core.Path.{_≡_};
 ghost use Prim.Native.Nat.{_+_, _*_, _≤_};
-ghost use Rattle.rows.specs.Rows.{slotsMost};
+ghost use Rattle.rows.specs.Rows.{slotsMax};
 ghost use Rattle.picture.specs.Picture.{pictureOf};
-ghost use Rattle.picture.specs.Answers.{Read};
+ghost use Rattle.picture.specs.Inner.{Read};
 ghost use Rattle.network.specs.Words.{joins, isHeld};
 ghost use Rattle.network.specs.Rows.{countOf, tableOf, RowsOf, isNearHeld, SlotRowsOf, BlockRow, EndpointsOf};
 use picture::ENDPOINTS_MAX;
@@ -19,6 +19,13 @@ pub const ENDPOINTS: usize = ENDPOINTS_MAX + 1;
 pub struct SlotRows {
     pub held: [u64; WORDS],
     pub near: [u64; WORDS],
+}
+
+// What giving up a block costs: the weight that is lost, and the mark (1 if a protected endpoint is cut, else 0).
+pub struct Cost {
+    pub block: usize,
+    pub loss: usize,
+    pub mark: usize,
 }
 
 // The endpoints' weights, and the protected ones.
@@ -56,9 +63,9 @@ pub fn link_rows(s: &[u8], h: Header) -> [[u64; WORDS]; LOCATIONS]
 }
 
 // The service links: row c marks each location that serves endpoint c.
-pub fn service_rows(s: &[u8], h: Header) -> [[u64; WORDS]; LOCATIONS]
+pub fn service_link_rows(s: &[u8], h: Header) -> [[u64; WORDS]; LOCATIONS]
     requires { ⌜ Read (now s) h ⌝ }
-    ensures { λ r. ⌜ RowsOf (λ c a. joins (pictureOf (now (s .entry)) .services) a c) r ⌝ }
+    ensures { λ r. ⌜ RowsOf (λ c a. joins (pictureOf (now (s .entry)) .serviceLinks) a c) r ⌝ }
 {
     mark_rows(s, h, h.service_links, true)
 }
@@ -105,7 +112,7 @@ pub fn slot_rows(s: &[u8], h: Header) -> SlotRows
 
 // The slots of block b.
 pub fn block_row(size: usize, b: usize) -> [u64; WORDS]
-    requires { ⌜ b * size + size ≤ slotsMost ⌝ }
+    requires { ⌜ b * size + size ≤ slotsMax ⌝ }
     ensures { λ r. ⌜ BlockRow size b r ⌝ }
 {
     let start = b * size;

@@ -15,7 +15,7 @@ use Rattle.picture.specs.declared.Header.{Header}
 use Rattle.picture.specs.declared.Link.{Link}
 use Rattle.picture.specs.Layout.{Edition, editionOf, headerWidths, fieldIn, leastBytes, noState, sizeOf}
 use Rattle.picture.specs.Picture.{Slot, Picture, headerOf, pictureOf, slotOf}
-use Rattle.picture.specs.Faults.{sizesRight, countsRight, slotFault, linkFault, serviceFault, endRight, partFaults, faultsWith, pictureFault}
+use Rattle.picture.specs.Faults.{sizesRight, countsRight, slotFault, linkFault, serviceLinkFault, endRight, bodyFaults, faultsWith, pictureFault}
 use Rattle.picture.specs.Rules.{States, Kept, rulesWith, rules, noLink}
 use Rattle.picture.proofs.Starts.{slots-length, rounded}
 use Rattle.picture.proofs.Judging.{right-sizes, sizes-right, right-counts, counts-right, right-state, state-right, right-link, link-right, right-service, service-right, right-ends, ends-right}
@@ -29,8 +29,8 @@ link-told : (n : ℕ) (l : Link) → linkFault n l ≢ 0 → linkFault n l ≡ 6
 unfolding linkFault
 link-told n l = on-told _ 6
 
-service-told : (n d : ℕ) (l : Link) → serviceFault n d l ≢ 0 → serviceFault n d l ≡ 6
-unfolding serviceFault
+service-told : (n d : ℕ) (l : Link) → serviceLinkFault n d l ≢ 0 → serviceLinkFault n d l ≡ 6
+unfolding serviceLinkFault
 service-told n d l = on-told _ 6
 
 module _ (bs : List ℕ) where
@@ -56,7 +56,7 @@ module _ (bs : List ℕ) where
   states-clean s i l = state-right _ (s .state (suc i) (suc-le-suc zero-le) (omega (arith, slots-length e h bs)))
 
   pub judged : Judged (rules bs) (pictureFault bs)
-  unfolding rules rulesWith pictureFault faultsWith partFaults headerOf pictureOf e h p
+  unfolding rules rulesWith pictureFault faultsWith bodyFaults headerOf pictureOf e h p
   judged =
       judge-test _ _ (ltb (length bs) leastBytes) _ (λ z. absurd (omega arith)) (nltb→le (length bs) leastBytes) (λ t l. absurd (omega (arith, ltb→lt (length bs) leastBytes t)))
       (judge-right _ _ (eqb (fieldIn bs (headerWidths e) 0 0) (e .number)) _ (λ z. absurd (omega arith)) (eqb→eq _ _) (eq-T _ _)
@@ -67,7 +67,7 @@ module _ (bs : List ℕ) where
       (judge-each _ _ (linkFault (h .slots)) noLink (p .links) _
       (λ c. record { from = λ i l. right-link _ _ (c i l) .0; to = λ i l. right-link _ _ (c i l) .1 })
       (λ r i l. link-right _ _ (r .from i l) (r .to i l)) (link-told (h .slots))
-      (judge-each _ _ (serviceFault (h .slots) (h .endpoints)) noLink (p .services) _
+      (judge-each _ _ (serviceLinkFault (h .slots) (h .endpoints)) noLink (p .serviceLinks) _
       (λ c. record { location = λ i l. right-service _ _ _ (c i l) .0; endpoint-some = λ i l. right-service _ _ _ (c i l) .1; endpoint-most = λ i l. right-service _ _ _ (c i l) .2 })
       (λ r i l. service-right _ _ _ (r .location i l) (r .endpoint-some i l) (r .endpoint-most i l)) (service-told (h .slots) (h .endpoints))
       (judge-right _ _ (endRight e h bs) _ (λ z. absurd (omega arith)) (right-ends e h bs (rounded h .room)) (ends-right e h bs (rounded h .room)) judge-none))))))))

@@ -4,12 +4,13 @@ use mathlib.Core.Logic.{_≢_}
 use mathlib.Core.List.{List}
 use Prim.Native.Nat.{ℕ, zero, suc}
 use native.Mathlib.Omega.{arith}
-use Rattle.lists.specs.Lists.{told}
+use Rattle.lists.specs.Lists.{outcome}
 use Rattle.picture.specs.declared.Header.{Header}
 use Rattle.picture.specs.declared.Reading.the-variants.{Accepted, Refused}
 use Rattle.picture.specs.Picture.{headerOf}
 use Rattle.picture.specs.Faults.{pictureFault}
-use Rattle.picture.specs.Answers.{headerValues, readingOf, reading, readingNumbers, Read}
+use Rattle.picture.specs.Answers.{headerValues, readingOf, reading, readingNumbers}
+use Rattle.picture.specs.Inner.{Read}
 
 -- ---- from the number to the answer
 
@@ -32,7 +33,7 @@ accepted-read bs h e = go (pictureFault bs) refl e
     go zero f q = record { accepted = f; header = cc }
     go (suc k) f q = let z : _≡_ {A = ℕ} 0 1 = cc in absurd (omega arith)
 
--- refused bytes have the fault whose number is told
+-- refused bytes have the fault whose number is outcome
 pub refused-fault : (bs : List ℕ) (k : ℕ) → Refused k ≡ reading bs → (pictureFault bs ≡ k) × (k ≢ 0)
 unfolding reading readingOf
 refused-fault bs k e = go (pictureFault bs) refl e
@@ -43,10 +44,10 @@ refused-fault bs k e = go (pictureFault bs) refl e
 
 -- ---- the numbers of the answer
 
-pub reading-numbers : (bs : List ℕ) → readingNumbers (reading bs) ≡ told (pictureFault bs) (headerValues (headerOf bs))
-unfolding readingNumbers reading readingOf told
+pub reading-numbers : (bs : List ℕ) → readingNumbers (reading bs) ≡ outcome (pictureFault bs) (headerValues (headerOf bs))
+unfolding readingNumbers reading readingOf outcome
 reading-numbers bs = go (pictureFault bs)
   where
-    go : (k : ℕ) → readingNumbers (readingOf k (headerOf bs)) ≡ told k (headerValues (headerOf bs))
+    go : (k : ℕ) → readingNumbers (readingOf k (headerOf bs)) ≡ outcome k (headerValues (headerOf bs))
     go zero = refl
     go (suc k) = refl

@@ -6,8 +6,8 @@ use lib.ListN.{length}
 use Rattle.picture.specs.declared.Header.{Header}
 use Rattle.picture.specs.Layout.{edition1}
 use Rattle.picture.specs.Picture.{Picture, pictureOf, pictureWith}
-use Rattle.picture.specs.Rules.{Sizes, Counts, Links, Services, Limited}
-use Rattle.picture.specs.Answers.{Read}
+use Rattle.picture.specs.Rules.{Sizes, Counts, Links, ServiceLinks}
+use Rattle.picture.specs.Inner.{Read, Limited}
 use Rattle.picture.proofs.Starts.{slots-length, endpoints-length, links-length, services-length}
 use Rattle.picture.proofs.Accepted.{accepted-kept}
 
@@ -28,8 +28,8 @@ module _ (bs : List ℕ) (h : Header) (r : Read bs h) where
   pub read-links : Links (h .slots) (pictureOf bs)
   read-links = subst (λ (k : Header). Links (k .slots) (pictureOf bs)) (sym (r .header)) (accepted-kept bs (r .accepted) .links)
 
-  pub read-services : Services (h .slots) (h .endpoints) (pictureOf bs)
-  read-services = subst (λ (k : Header). Services (k .slots) (k .endpoints) (pictureOf bs)) (sym (r .header)) (accepted-kept bs (r .accepted) .services)
+  pub read-services : ServiceLinks (h .slots) (h .endpoints) (pictureOf bs)
+  read-services = subst (λ (k : Header). ServiceLinks (k .slots) (k .endpoints) (pictureOf bs)) (sym (r .header)) (accepted-kept bs (r .accepted) .services)
 
   -- the lists are as long as it says
   pub read-slots-length : length (pictureOf bs .slots) ≡ h .slots
@@ -41,5 +41,5 @@ module _ (bs : List ℕ) (h : Header) (r : Read bs h) where
   pub read-links-length : length (pictureOf bs .links) ≡ h .links
   read-links-length = ap (λ (p : Picture). length (p .links)) (sym read-picture) ∙ links-length edition1 h bs
 
-  pub read-services-length : length (pictureOf bs .services) ≡ h .«service_links»
-  read-services-length = ap (λ (p : Picture). length (p .services)) (sym read-picture) ∙ services-length edition1 h bs
+  pub read-services-length : length (pictureOf bs .serviceLinks) ≡ h .«service_links»
+  read-services-length = ap (λ (p : Picture). length (p .serviceLinks)) (sym read-picture) ∙ services-length edition1 h bs

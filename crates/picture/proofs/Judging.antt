@@ -17,8 +17,9 @@ use Rattle.picture.specs.declared.Header.{Header}
 use Rattle.picture.specs.declared.Link.{Link}
 use Rattle.picture.specs.Layout.{Edition, edition1, blockSizeMax, blocksMax, endpointsMax, linksMax, noState, endAt, sizeOf}
 use Rattle.picture.specs.Picture.{Slot}
-use Rattle.picture.specs.Faults.{sizesRight, countsRight, slotFault, linkFault, serviceFault, endRight}
-use Rattle.picture.specs.Rules.{Sizes, Counts, Ends, Limited}
+use Rattle.picture.specs.Faults.{sizesRight, countsRight, slotFault, linkFault, serviceLinkFault, endRight}
+use Rattle.picture.specs.Rules.{Sizes, Counts, Ends}
+use Rattle.picture.specs.Inner.{Limited}
 
 -- ---- the header
 
@@ -79,8 +80,8 @@ pub link-right : (n : ℕ) (l : Link) → l .from ≤ n → l .to ≤ n → link
 unfolding linkFault on
 link-right n l f t = rw (le-ltb _ _ f, le-ltb _ _ t)
 
-pub right-service : (n d : ℕ) (l : Link) → serviceFault n d l ≡ 0 → (l .from ≤ n) × (1 ≤ l .to) × (l .to ≤ d)
-unfolding serviceFault
+pub right-service : (n d : ℕ) (l : Link) → serviceLinkFault n d l ≡ 0 → (l .from ≤ n) × (1 ≤ l .to) × (l .to ≤ d)
+unfolding serviceLinkFault
 right-service n d l e =
     let t = not-or (ltb n (l .from)) (eqb (l .to) 0 || ltb d (l .to)) (on-zero (ltb n (l .from) || (eqb (l .to) 0 || ltb d (l .to))) 5 e) in
     let u = not-or (eqb (l .to) 0) (ltb d (l .to)) (t .1) in
@@ -90,8 +91,8 @@ right-service n d l e =
     above zero t = absurd t
     above (suc k) t = suc-le-suc zero-le
 
-pub service-right : (n d : ℕ) (l : Link) → l .from ≤ n → 1 ≤ l .to → l .to ≤ d → serviceFault n d l ≡ 0
-unfolding serviceFault on
+pub service-right : (n d : ℕ) (l : Link) → l .from ≤ n → 1 ≤ l .to → l .to ≤ d → serviceLinkFault n d l ≡ 0
+unfolding serviceLinkFault on
 service-right n d l f s t =
     let some : l .to ≢ 0 = λ z. absurd (omega arith) in
     rw (le-ltb _ _ f, ne-eqb _ _ some, le-ltb _ _ t)

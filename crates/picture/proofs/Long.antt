@@ -11,10 +11,10 @@ use lib.ListN.{length, take, length-take}
 use Rattle.bits.specs.Bits.{fieldAt}
 use Rattle.lists.specs.Lists.{on, first, sum}
 use Rattle.picture.specs.declared.Header.{Header}
-use Rattle.picture.specs.Layout.{edition1, pictureMost, headerWidths, slotWidths, endpointWidths, linkWidths, serviceWidths, slotsAt, endpointsAt, linksAt, servicesAt, endAt, sizeOf, fieldIn}
+use Rattle.picture.specs.Layout.{edition1, pictureMax, headerWidths, slotWidths, endpointWidths, linkWidths, serviceLinkWidths, slotsAt, endpointsAt, linksAt, serviceLinksAt, endAt, sizeOf, fieldIn}
 use Rattle.picture.specs.Picture.{headerOf, headerIn, pictureWith}
-use Rattle.picture.specs.Rules.{Limited}
-use Rattle.picture.specs.Faults.{sizesRight, countsRight, endRight, partFaults, faultsWith, pictureFault}
+use Rattle.picture.specs.Inner.{Limited}
+use Rattle.picture.specs.Faults.{sizesRight, countsRight, endRight, bodyFaults, faultsWith, pictureFault}
 use Rattle.picture.proofs.Judging.{right-limited}
 use Rattle.picture.proofs.Accepted.{accepted-kept}
 use Rattle.picture.proofs.Fronts.{edition-front, header-front, slots-front, links-front}
@@ -31,51 +31,51 @@ heads-same false y z l m h = refl
 
 -- where the slots, the links and the service links end, in bits
 record Within (h : Header) : Type 0 where
-  pub slots : slotsAt edition1 + h .slots * sum slotWidths ≤ pictureMost * 8
-  pub links : linksAt edition1 h + h .links * sum (linkWidths edition1) ≤ pictureMost * 8
-  pub services : servicesAt edition1 h + h .«service_links» * sum (serviceWidths edition1) ≤ pictureMost * 8
+  pub slots : slotsAt edition1 + h .slots * sum slotWidths ≤ pictureMax * 8
+  pub links : linksAt edition1 h + h .links * sum (linkWidths edition1) ≤ pictureMax * 8
+  pub services : serviceLinksAt edition1 h + h .«service_links» * sum (serviceLinkWidths edition1) ≤ pictureMax * 8
 
 module _ (h : Header) (l : Limited h) where
   within : Within h
-  unfolding endpointsAt linksAt servicesAt slotsAt headerWidths slotWidths endpointWidths linkWidths serviceWidths sum
+  unfolding endpointsAt linksAt serviceLinksAt slotsAt headerWidths slotWidths endpointWidths linkWidths serviceLinkWidths sum
   within = record { slots = omega arith; links = omega (arith, l .counts); services = omega (arith, l .counts) }
 
   -- no picture is longer
-  pub size-small : sizeOf edition1 h ≤ pictureMost
+  pub size-small : sizeOf edition1 h ≤ pictureMax
   unfolding sizeOf endAt
   size-small = omega (arith, within .services)
 
   -- longer bytes do not end where the picture does
-  too-long : (bs : List ℕ) → pictureMost < length bs → endRight edition1 h bs ≡ false
+  too-long : (bs : List ℕ) → pictureMax < length bs → endRight edition1 h bs ≡ false
   unfolding endRight
   too-long bs m = rw (ne-eqb (length bs) (sizeOf edition1 h) (λ e. absurd (omega (arith, size-small)))) (and-false (eqb (fieldAt bs (endAt edition1 h) (sizeOf edition1 h * 8 - endAt edition1 h)) 0))
 
 -- ---- longer bytes, of which the first m are read
 
-module _ (m : ℕ) (wide : pictureMost < m) (bs : List ℕ) (over : m < length bs) where
+module _ (m : ℕ) (wide : pictureMax < m) (bs : List ℕ) (over : m < length bs) where
   abbrev front : List ℕ
   front = take m bs
 
   -- they are over too
-  front-long : pictureMost < length front
+  front-long : pictureMax < length front
   front-long = omega (arith, length-take m bs)
 
   module _ (h : Header) (l : Limited h) where
     -- the parts up to the end of the longest picture are the same
-    parts-same : partFaults edition1 h (pictureWith edition1 h front) front ≡ partFaults edition1 h (pictureWith edition1 h bs) bs
-    unfolding partFaults pictureWith
+    parts-same : bodyFaults edition1 h (pictureWith edition1 h front) front ≡ bodyFaults edition1 h (pictureWith edition1 h bs) bs
+    unfolding bodyFaults pictureWith
     parts-same =
         let w = within h l in
         rw (
           slots-front m bs (slotsAt edition1) (h .slots) (omega (arith, w .slots)),
           links-front m bs (linkWidths edition1) (linksAt edition1 h) (h .links) (omega (arith, w .links)),
-          links-front m bs (serviceWidths edition1) (servicesAt edition1 h) (h .«service_links») (omega (arith, w .services)),
+          links-front m bs (serviceLinkWidths edition1) (serviceLinksAt edition1 h) (h .«service_links») (omega (arith, w .services)),
           too-long h l front front-long,
           too-long h l bs (omega arith),
         )
 
     -- and neither is too short
-    rest-same : first (on (ltb (length front) (sizeOf edition1 h)) 1 ∷ partFaults edition1 h (pictureWith edition1 h front) front) ≡ first (on (ltb (length bs) (sizeOf edition1 h)) 1 ∷ partFaults edition1 h (pictureWith edition1 h bs) bs)
+    rest-same : first (on (ltb (length front) (sizeOf edition1 h)) 1 ∷ bodyFaults edition1 h (pictureWith edition1 h front) front) ≡ first (on (ltb (length bs) (sizeOf edition1 h)) 1 ∷ bodyFaults edition1 h (pictureWith edition1 h bs) bs)
     rest-same =
         let small = size-small h l in
         rw (le-ltb (length front) (sizeOf edition1 h) (omega (arith, front-long)), le-ltb (length bs) (sizeOf edition1 h) (omega arith), parts-same)

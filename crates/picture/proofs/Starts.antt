@@ -13,9 +13,10 @@ use Rattle.lists.specs.Lists.{range, item, sum}
 use Rattle.lists.proofs.Ranges.{length-range, getD-map-range}
 use Rattle.picture.specs.declared.Header.{Header}
 use Rattle.picture.specs.declared.Link.{Link}
-use Rattle.picture.specs.Layout.{Edition, edition1, slotWidths, endpointWidths, linkWidths, serviceWidths, headerWidths, fieldIn, slotsAt, endpointsAt, linksAt, servicesAt, endAt, sizeOf}
+use Rattle.picture.specs.Layout.{Edition, edition1, slotWidths, endpointWidths, linkWidths, serviceLinkWidths, headerWidths, fieldIn, slotsAt, endpointsAt, linksAt, serviceLinksAt, endAt, sizeOf}
 use Rattle.picture.specs.Picture.{slotAt, endpointAt, linkAt, rows, pictureWith, slotOf, endpointOf}
-use Rattle.picture.specs.Rules.{Limited, noLink}
+use Rattle.picture.specs.Rules.{noLink}
+use Rattle.picture.specs.Inner.{Limited}
 
 -- ---- the first two fields of a run of fields
 
@@ -73,9 +74,9 @@ module _ (e : Edition) (h : Header) (bs : List ℕ) where
   unfolding pictureWith
   link-row i l = row-at (linkAt (linkWidths e) bs) noLink (linksAt e h) (sum (linkWidths e)) (h .links) i l
 
-  pub service-row : (i : ℕ) → i < h .«service_links» → getD (pictureWith e h bs .services) i noLink ≡ linkAt (serviceWidths e) bs (servicesAt e h + i * sum (serviceWidths e))
+  pub service-row : (i : ℕ) → i < h .«service_links» → getD (pictureWith e h bs .serviceLinks) i noLink ≡ linkAt (serviceLinkWidths e) bs (serviceLinksAt e h + i * sum (serviceLinkWidths e))
   unfolding pictureWith
-  service-row i l = row-at (linkAt (serviceWidths e) bs) noLink (servicesAt e h) (sum (serviceWidths e)) (h .«service_links») i l
+  service-row i l = row-at (linkAt (serviceLinkWidths e) bs) noLink (serviceLinksAt e h) (sum (serviceLinkWidths e)) (h .«service_links») i l
 
   pub slots-length : length (pictureWith e h bs .slots) ≡ h .slots
   unfolding pictureWith
@@ -89,20 +90,20 @@ module _ (e : Edition) (h : Header) (bs : List ℕ) where
   unfolding pictureWith
   links-length = length-rows (linkAt (linkWidths e) bs) (linksAt e h) (sum (linkWidths e)) (h .links)
 
-  pub services-length : length (pictureWith e h bs .services) ≡ h .«service_links»
+  pub services-length : length (pictureWith e h bs .serviceLinks) ≡ h .«service_links»
   unfolding pictureWith
-  services-length = length-rows (linkAt (serviceWidths e) bs) (servicesAt e h) (sum (serviceWidths e)) (h .«service_links»)
+  services-length = length-rows (linkAt (serviceLinkWidths e) bs) (serviceLinksAt e h) (sum (serviceLinkWidths e)) (h .«service_links»)
 
 -- ---- places are small numbers, in their order
 
 pub record Ordered (h : Header) : Type 0 where
   pub endpoints : endpointsAt edition1 h ≤ linksAt edition1 h
-  pub links : linksAt edition1 h ≤ servicesAt edition1 h
-  pub services : servicesAt edition1 h ≤ endAt edition1 h
+  pub links : linksAt edition1 h ≤ serviceLinksAt edition1 h
+  pub services : serviceLinksAt edition1 h ≤ endAt edition1 h
   pub small : endAt edition1 h < 2 ^ 20
 
 pub ordered : (h : Header) → Limited h → Ordered h
-unfolding endpointsAt linksAt servicesAt endAt slotsAt headerWidths slotWidths endpointWidths linkWidths serviceWidths sum
+unfolding endpointsAt linksAt serviceLinksAt endAt slotsAt headerWidths slotWidths endpointWidths linkWidths serviceLinkWidths sum
 ordered h l = record { endpoints = omega arith; links = omega arith; services = omega arith; small = omega (arith, l .counts) }
 
 -- the size in bytes has room for every field, and for fewer than eight fill bits

@@ -24,8 +24,3 @@ reading bs = readingOf (pictureFault bs) (headerOf bs)
 unfoldable pub readingNumbers : Reading → List ℕ
 readingNumbers (Accepted h) = 0 ∷ headerValues h
 readingNumbers (Refused k) = k ∷ []
-
--- the bytes are accepted, and the header is theirs: what the functions on an accepted picture rely on
-pub record Read (bs : List ℕ) (h : Header) : Type 0 where
-  pub accepted : pictureFault bs ≡ 0
-  pub header : h ≡ headerOf bs

@@ -30,8 +30,8 @@ unfoldable pub linkFault : ℕ → Link → ℕ
 linkFault n l = on (ltb n (l .from) || ltb n (l .to)) 6
 
 -- 6: the location of a service link is above n, or its endpoint is 0 or above D
-unfoldable pub serviceFault : ℕ → ℕ → Link → ℕ
-serviceFault n d l = on (ltb n (l .from) || (eqb (l .to) 0 || ltb d (l .to))) 6
+unfoldable pub serviceLinkFault : ℕ → ℕ → Link → ℕ
+serviceLinkFault n d l = on (ltb n (l .from) || (eqb (l .to) 0 || ltb d (l .to))) 6
 
 -- 7: the fill bits up to the byte are zero, and then the picture ends
 unfoldable pub endRight : Edition → Header → List ℕ → Bool
@@ -39,11 +39,11 @@ endRight e h bs = eqb (fieldAt bs (endAt e h) (sizeOf e h * 8 - endAt e h)) 0 &&
 
 -- the faults of the parts after the header, each its number or 0: states in order (5), links and then service links (6), fill bits or
 -- extra bytes (7)
-unfoldable pub partFaults : Edition → Header → Picture → List ℕ → List ℕ
-partFaults e h p bs =
+unfoldable pub bodyFaults : Edition → Header → Picture → List ℕ → List ℕ
+bodyFaults e h p bs =
     first (map slotFault (p .slots))
     ∷ first (map (linkFault (h .slots)) (p .links))
-    ∷ first (map (serviceFault (h .slots) (h .endpoints)) (p .services))
+    ∷ first (map (serviceLinkFault (h .slots) (h .endpoints)) (p .serviceLinks))
     ∷ on (not (endRight e h bs)) 7
     ∷ []
 
@@ -55,7 +55,7 @@ faultsWith e h p bs =
     ∷ on (not (sizesRight e h)) 3
     ∷ on (not (countsRight h)) 4
     ∷ on (ltb (length bs) (sizeOf e h)) 1
-    ∷ partFaults e h p bs
+    ∷ bodyFaults e h p bs
 
 -- the number of the first fault, or 0 where the picture is accepted
 unfoldable pub pictureFault : List ℕ → ℕ

@@ -5,7 +5,6 @@ use lib.ListN.{getD, take}
 use Rattle.bits.specs.Bits.{fieldAt}
 use Rattle.lists.specs.Lists.{sum}
 use Rattle.picture.specs.declared.Header.{Header}
-use Rattle.picture.specs.declared.Places.{Places}
 
 -- an edition: its number; the widths of n, of κ and of a location; the largest n
 pub record Edition : Type 0 where
@@ -41,8 +40,8 @@ unfoldable pub linkWidths : Edition → List ℕ
 linkWidths e = e .locationBits ∷ e .locationBits ∷ []
 
 -- a service link (01: serving link): location, endpoint
-unfoldable pub serviceWidths : Edition → List ℕ
-serviceWidths e = e .locationBits ∷ 8 ∷ []
+unfoldable pub serviceLinkWidths : Edition → List ℕ
+serviceLinkWidths e = e .locationBits ∷ 8 ∷ []
 
 -- field k of the fields with these widths that start at bit p, without gaps
 unfoldable pub fieldIn : List ℕ → List ℕ → ℕ → ℕ → ℕ
@@ -67,8 +66,8 @@ abbrev pub linksMax : ℕ
 linksMax = 2000
 
 -- the longest picture, in bytes
-abbrev pub pictureMost : ℕ
-pictureMost = 8522
+abbrev pub pictureMax : ℕ
+pictureMax = 8522
 
 -- state 3 is none of held, recoverable and freed
 abbrev pub noState : ℕ
@@ -89,14 +88,11 @@ endpointsAt e h = slotsAt e + h .slots * sum slotWidths
 unfoldable pub linksAt : Edition → Header → ℕ
 linksAt e h = endpointsAt e h + h .endpoints * sum endpointWidths
 
-unfoldable pub servicesAt : Edition → Header → ℕ
-servicesAt e h = linksAt e h + h .links * sum (linkWidths e)
+unfoldable pub serviceLinksAt : Edition → Header → ℕ
+serviceLinksAt e h = linksAt e h + h .links * sum (linkWidths e)
 
 unfoldable pub endAt : Edition → Header → ℕ
-endAt e h = servicesAt e h + h .«service_links» * sum (serviceWidths e)
-
-unfoldable pub placesOf : Edition → Header → Places
-placesOf e h = record { endpoints = endpointsAt e h; links = linksAt e h; services = servicesAt e h; end = endAt e h }
+endAt e h = serviceLinksAt e h + h .«service_links» * sum (serviceLinkWidths e)
 
 -- the bytes that the header asks for, the bits rounded up
 unfoldable pub sizeOf : Edition → Header → ℕ

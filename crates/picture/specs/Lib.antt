@@ -4,3 +4,4 @@ pub mod Picture
 pub mod Faults
 pub mod Rules
 pub mod Answers
+pub mod Inner

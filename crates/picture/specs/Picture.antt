@@ -6,7 +6,7 @@ use lib.Dec.{eqb}
 use Rattle.lists.specs.Lists.{range, item, sum}
 use Rattle.picture.specs.declared.Header.{Header}
 use Rattle.picture.specs.declared.Link.{Link}
-use Rattle.picture.specs.Layout.{Edition, editionOf, headerWidths, slotWidths, endpointWidths, linkWidths, serviceWidths, fieldIn, slotsAt, endpointsAt, linksAt, servicesAt}
+use Rattle.picture.specs.Layout.{Edition, editionOf, headerWidths, slotWidths, endpointWidths, linkWidths, serviceLinkWidths, fieldIn, slotsAt, endpointsAt, linksAt, serviceLinksAt}
 
 -- a slot: its state (0 held, 1 recoverable, 2 freed), and whether it is near
 pub record Slot : Type 0 where
@@ -25,7 +25,7 @@ pub record Picture : Type 0 where
   pub slots : List Slot
   pub endpoints : List Endpoint
   pub links : List Link
-  pub services : List Link
+  pub serviceLinks : List Link
 
 -- ---- what the bytes say
 
@@ -63,7 +63,7 @@ pictureWith e h bs =
       slots = rows (slotAt bs) (slotsAt e) (sum slotWidths) (h .slots);
       endpoints = rows (endpointAt bs) (endpointsAt e h) (sum endpointWidths) (h .endpoints);
       links = rows (linkAt (linkWidths e) bs) (linksAt e h) (sum (linkWidths e)) (h .links);
-      services = rows (linkAt (serviceWidths e) bs) (servicesAt e h) (sum (serviceWidths e)) (h .«service_links»);
+      serviceLinks = rows (linkAt (serviceLinkWidths e) bs) (serviceLinksAt e h) (sum (serviceLinkWidths e)) (h .«service_links»);
     }
 
 unfoldable pub headerOf : List ℕ → Header

@@ -40,10 +40,10 @@ pub record Links (n : ℕ) (p : Picture) : Type 0 where
   pub to : (i : ℕ) → i < length (p .links) → getD (p .links) i noLink .to ≤ n
 
 -- "S serving links: location 8 (0 to n), cab 8 (1 to D)"
-pub record Services (n d : ℕ) (p : Picture) : Type 0 where
-  pub location : (i : ℕ) → i < length (p .services) → getD (p .services) i noLink .from ≤ n
-  pub endpoint-some : (i : ℕ) → i < length (p .services) → 1 ≤ getD (p .services) i noLink .to
-  pub endpoint-most : (i : ℕ) → i < length (p .services) → getD (p .services) i noLink .to ≤ d
+pub record ServiceLinks (n d : ℕ) (p : Picture) : Type 0 where
+  pub location : (i : ℕ) → i < length (p .serviceLinks) → getD (p .serviceLinks) i noLink .from ≤ n
+  pub endpoint-some : (i : ℕ) → i < length (p .serviceLinks) → 1 ≤ getD (p .serviceLinks) i noLink .to
+  pub endpoint-most : (i : ℕ) → i < length (p .serviceLinks) → getD (p .serviceLinks) i noLink .to ≤ d
 
 -- "Zero bits up to the byte, then the end"
 pub record Ends (e : Edition) (h : Header) (bs : List ℕ) : Type 0 where
@@ -60,7 +60,7 @@ rulesWith e h p bs =
     ∷ record { number = 1; holds = sizeOf e h ≤ length bs }
     ∷ record { number = 5; holds = States (h .slots) p }
     ∷ record { number = 6; holds = Links (h .slots) p }
-    ∷ record { number = 6; holds = Services (h .slots) (h .endpoints) p }
+    ∷ record { number = 6; holds = ServiceLinks (h .slots) (h .endpoints) p }
     ∷ record { number = 7; holds = Ends e h bs }
     ∷ []
 
@@ -76,12 +76,5 @@ pub record Kept (bs : List ℕ) : Type 0 where
   pub long : sizeOf (editionOf bs) (headerOf bs) ≤ length bs
   pub states : States (headerOf bs .slots) (pictureOf bs)
   pub links : Links (headerOf bs .slots) (pictureOf bs)
-  pub services : Services (headerOf bs .slots) (headerOf bs .endpoints) (pictureOf bs)
+  pub services : ServiceLinks (headerOf bs .slots) (headerOf bs .endpoints) (pictureOf bs)
   pub ends : Ends (editionOf bs) (headerOf bs) bs
-
--- ---- what the functions that find a field rely on
-
--- the counts keep their limits, so that no place in the bytes is out of a number's range
-pub record Limited (h : Header) : Type 0 where
-  pub slots : h .slots ≤ edition1 .slotsMax
-  pub counts : Counts h

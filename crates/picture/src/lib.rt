@@ -5,10 +5,11 @@ ghost use Prim.Native.Nat.{_+_, _-_, _*_, _≤_, _<_};
 ghost use lib.ListN.{length, getD};
 ghost use Rattle.bits.specs.Bits.{putField};
 ghost use Rattle.lists.specs.Lists.{first, sum};
-ghost use Rattle.picture.specs.Layout.{edition1, slotWidths, slotsAt, placesOf, sizeOf};
+ghost use Rattle.picture.specs.Layout.{edition1, slotWidths, slotsAt, sizeOf};
 ghost use Rattle.picture.specs.Picture.{headerIn, linkAt, pictureWith, slotOf, endpointOf};
-ghost use Rattle.picture.specs.Faults.{sizesRight, countsRight, slotFault, linkFault, serviceFault, endRight, partFaults, pictureFault};
-ghost use Rattle.picture.specs.Rules.{Limited, noLink};
+ghost use Rattle.picture.specs.Faults.{sizesRight, countsRight, slotFault, linkFault, serviceLinkFault, endRight, bodyFaults, pictureFault};
+ghost use Rattle.picture.specs.Rules.{noLink};
+ghost use Rattle.picture.specs.Inner.{Limited, placesOf};
 ghost use Rattle.picture.specs.Answers.{reading};
 
 mod faults;
@@ -60,7 +61,7 @@ const ENDPOINT_ROW: usize = WEIGHT_BITS + PROTECTED_BITS;
 
 const LINK_ROW: usize = LOCATION_BITS + LOCATION_BITS;
 
-const SERVICE_ROW: usize = LOCATION_BITS + ENDPOINT_BITS;
+const SERVICE_LINK_ROW: usize = LOCATION_BITS + ENDPOINT_BITS;
 
 // Limits.
 const EDITION: usize = 1;
@@ -78,11 +79,11 @@ pub const ENDPOINTS_MAX: usize = 200;
 const LINKS_MAX: usize = 2000;
 
 // The longest picture, in bytes: 8,522.
-pub const PICTURE_BYTES: usize = (HEADER_BITS
+pub const PICTURE_MAX: usize = (HEADER_BITS
     + SLOTS_MAX * SLOT_ROW
     + ENDPOINTS_MAX * ENDPOINT_ROW
     + LINKS_MAX * LINK_ROW
-    + LINKS_MAX * SERVICE_ROW
+    + LINKS_MAX * SERVICE_LINK_ROW
     + 7)
     / 8;
 
@@ -109,7 +110,7 @@ pub struct Header {
 struct Places {
     endpoints: usize,
     links: usize,
-    services: usize,
+    service_links: usize,
     end: usize,
 }
 
@@ -169,14 +170,14 @@ fn counts_right(h: Header) -> bool
 {
     let endpoints = h.endpoints;
     let links = h.links;
-    let services = h.service_links;
+    let service_links = h.service_links;
     if ENDPOINTS_MAX < endpoints {
         return false;
     }
     if LINKS_MAX < links {
         return false;
     }
-    services <= LINKS_MAX
+    service_links <= LINKS_MAX
 }
 
 // Where the parts after the slots start, and where the last field ends.
@@ -186,12 +187,12 @@ fn find_places(h: Header) -> Places
 {
     let endpoints = HEADER_BITS + h.slots * SLOT_ROW;
     let links = endpoints + h.endpoints * ENDPOINT_ROW;
-    let services = links + h.links * LINK_ROW;
-    let end = services + h.service_links * SERVICE_ROW;
+    let service_links = links + h.links * LINK_ROW;
+    let end = service_links + h.service_links * SERVICE_LINK_ROW;
     Places {
         endpoints,
         links,
-        services,
+        service_links,
         end,
     }
 }
@@ -281,11 +282,11 @@ pub fn nth_link(s: &[u8], h: Header, i: usize) -> Link
 // Service link i, counted from 0.
 pub fn nth_service_link(s: &[u8], h: Header, i: usize) -> Link
     requires { ⌜ Limited h × (i < h .«service_links») ⌝ }
-    ensures { λ r. ⌜ r ≡ getD (pictureWith edition1 h (now (s .entry)) .services) i noLink ⌝ }
+    ensures { λ r. ⌜ r ≡ getD (pictureWith edition1 h (now (s .entry)) .serviceLinks) i noLink ⌝ }
 {
     link_at(
         s,
-        find_places(h).services + i * SERVICE_ROW,
+        find_places(h).service_links + i * SERVICE_LINK_ROW,
         LOCATION_BITS,
         ENDPOINT_BITS,
     )
@@ -340,8 +341,8 @@ fn links_fault(s: &[u8], h: Header) -> u8
 }
 
 // The fault of one service link.
-fn service_fault(l: Link, n: usize, d: usize) -> u8
-    ensures { λ r. ⌜ r ≡ serviceFault n d l ⌝ }
+fn service_link_fault(l: Link, n: usize, d: usize) -> u8
+    ensures { λ r. ⌜ r ≡ serviceLinkFault n d l ⌝ }
 {
     let from = l.from;
     let to = l.to;
@@ -358,14 +359,14 @@ fn service_fault(l: Link, n: usize, d: usize) -> u8
 }
 
 // The fault of the first service link that has one.
-fn services_fault(s: &[u8], h: Header) -> u8
+fn service_links_fault(s: &[u8], h: Header) -> u8
     requires { ⌜ Limited h ⌝ }
-    ensures { λ r. ⌜ r ≡ first (map (serviceFault (h .slots) (h .endpoints)) (pictureWith edition1 h (now (s .entry)) .services)) ⌝ }
+    ensures { λ r. ⌜ r ≡ first (map (serviceLinkFault (h .slots) (h .endpoints)) (pictureWith edition1 h (now (s .entry)) .serviceLinks)) ⌝ }
 {
     let count = h.service_links;
     let mut i: usize = 0;
     while i < count {
-        let fault = service_fault(nth_service_link(s, h, i), h.slots, h.endpoints);
+        let fault = service_link_fault(nth_service_link(s, h, i), h.slots, h.endpoints);
         if fault != 0 {
             return fault;
         }
@@ -388,9 +389,9 @@ fn end_right(s: &[u8], h: Header) -> bool
 }
 
 // The first fault of the parts after the header, in bytes that are long enough for them, or 0.
-fn parts_fault(s: &[u8], h: Header) -> u8
+fn body_fault(s: &[u8], h: Header) -> u8
     requires { ⌜ Limited h ⌝ }
-    ensures { λ r. ⌜ r ≡ first (partFaults edition1 h (pictureWith edition1 h (now (s .entry))) (now (s .entry))) ⌝ }
+    ensures { λ r. ⌜ r ≡ first (bodyFaults edition1 h (pictureWith edition1 h (now (s .entry))) (now (s .entry))) ⌝ }
 {
     let state = states_fault(s, h);
     if state != 0 {
@@ -400,7 +401,7 @@ fn parts_fault(s: &[u8], h: Header) -> u8
     if link != 0 {
         return link;
     }
-    let service = services_fault(s, h);
+    let service = service_links_fault(s, h);
     if service != 0 {
         return service;
     }
@@ -432,7 +433,7 @@ fn fault(s: &[u8]) -> u8
     if s.len() < size_of(h) {
         return faults::SHORT;
     }
-    parts_fault(s, h)
+    body_fault(s, h)
 }
 
 // Reads a picture of any bytes: accepted, with the header's numbers, or refused with the number of its first fault.

@@ -6,20 +6,20 @@ use Prim.Native.Nat.{ℕ, _+_, _-_, _*_, _/_, _%_, _^_}
 use lib.ListN.{length, getD}
 use lib.Dec.{T, leb, ltb, eqb}
 
--- the slots that rows have a place for: locations are 0, the origin, and the slots 1 to slotsMost
-abbrev pub slotsMost : ℕ
-slotsMost = 240
+-- the slots that rows have a place for: locations are 0, the origin, and the slots 1 to slotsMax
+abbrev pub slotsMax : ℕ
+slotsMax = 240
 
 -- the rows of a table, one for each location
-abbrev pub locationsMost : ℕ
-locationsMost = slotsMost + 1
+abbrev pub locationsMax : ℕ
+locationsMax = slotsMax + 1
 
 -- the words of a row, and the locations that they can mark
 abbrev pub rowWords : ℕ
 rowWords = 4
 
-abbrev pub marksMost : ℕ
-marksMost = rowWords * 64
+abbrev pub marksMax : ℕ
+marksMax = rowWords * 64
 
 -- the digit of a word at a place, 0 or 1
 unfoldable pub bit : ℕ → ℕ → ℕ

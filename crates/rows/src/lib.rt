@@ -2,7 +2,7 @@
 ghost use mathlib.Core.Path.{_≡_};
 ghost use Prim.Native.Nat.{_<_};
 ghost use lib.ListN.{length};
-ghost use Rattle.rows.specs.Rows.{marked, With, Linked, Differ, Minus, NoneMarked, Meet, locationsMost, marksMost, rowWords};
+ghost use Rattle.rows.specs.Rows.{marked, With, Linked, Differ, Minus, NoneMarked, Meet, locationsMax, marksMax, rowWords};
 
 // The slots that rows have a place for.
 pub const SLOTS: usize = 240;
@@ -13,7 +13,7 @@ pub const WORDS: usize = 4;
 
 // Whether v is marked.
 pub fn has(row: &[u64; WORDS], v: usize) -> bool
-    requires { ⌜ v < marksMost ⌝ }
+    requires { ⌜ v < marksMax ⌝ }
     ensures { λ r. ⌜ r ≡ marked (now (row .entry)) v ⌝ }
 {
     (row[v / 64] >> (v % 64)) & 1 == 1
@@ -26,7 +26,7 @@ fn four_words(row: [u64; WORDS])
 
 // The row marks v too.
 pub fn add(row: &mut [u64; WORDS], v: usize)
-    requires { ⌜ v < marksMost ⌝ }
+    requires { ⌜ v < marksMax ⌝ }
     ensures { λ _. ⌜ With (now (row .entry)) v (now (row .exit)) ⌝ }
 {
     four_words(*row);
@@ -36,7 +36,7 @@ pub fn add(row: &mut [u64; WORDS], v: usize)
 
 // Row a gets the mark b: a link from a to b. A second mark of the same link changes nothing.
 pub fn mark(rows: &mut [[u64; WORDS]; LOCATIONS], a: usize, b: usize)
-    requires { ⌜ (length (now rows) ≡ locationsMost) × (a < locationsMost) × (b < marksMost) ⌝ }
+    requires { ⌜ (length (now rows) ≡ locationsMax) × (a < locationsMax) × (b < marksMax) ⌝ }
     ensures { λ _. ⌜ Linked (now (rows .entry)) a b (now (rows .exit)) ⌝ }
 {
     add(&mut rows[a], b);

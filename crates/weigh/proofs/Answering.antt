@@ -5,7 +5,7 @@ use mathlib.Core.List.{List}
 use Prim.Native.Nat.{ℕ, zero, suc, _≤_, _<_}
 use native.Mathlib.Omega.{arith}
 use borrow.Author.Tests.{le-leb, lt-leb}
-use Rattle.lists.specs.Lists.{on, told}
+use Rattle.lists.specs.Lists.{on, outcome}
 use Rattle.lists.proofs.Faults.{stop-at, skip-at, end-at}
 use Rattle.picture.specs.Picture.{pictureOf}
 use Rattle.picture.specs.Faults.{pictureFault}
@@ -43,10 +43,10 @@ module _ (bs : List ℕ) (b : ℕ) where
 
 -- ---- the numbers of the answer
 
-pub weighing-numbers : (bs : List ℕ) (b : ℕ) → weighingNumbers (weighing bs b) ≡ told (weighFault bs b) (weightValues (weightsOf (pictureOf bs) b))
-unfolding weighingNumbers weighing weighingOf told
+pub weighing-numbers : (bs : List ℕ) (b : ℕ) → weighingNumbers (weighing bs b) ≡ outcome (weighFault bs b) (weightValues (weightsOf (pictureOf bs) b))
+unfolding weighingNumbers weighing weighingOf outcome
 weighing-numbers bs b = go (weighFault bs b)
   where
-    go : (k : ℕ) → weighingNumbers (weighingOf k (weightsOf (pictureOf bs) b)) ≡ told k (weightValues (weightsOf (pictureOf bs) b))
+    go : (k : ℕ) → weighingNumbers (weighingOf k (weightsOf (pictureOf bs) b)) ≡ outcome k (weightValues (weightsOf (pictureOf bs) b))
     go zero = refl
     go (suc k) = refl

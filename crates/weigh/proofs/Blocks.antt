@@ -4,10 +4,10 @@ use mathlib.Core.List.{List}
 use Prim.Native.Nat.{ℕ, suc, _+_, _*_, _/_, _≤_, _<_}
 use native.Mathlib.Omega.{arith}
 use native.Mathlib.Nat.{suc-mul, le-trans, mul-le-mul-right, div-mul-le-self}
-use Rattle.rows.specs.Rows.{slotsMost}
+use Rattle.rows.specs.Rows.{slotsMax}
 use Rattle.picture.specs.declared.Header.{Header}
 use Rattle.picture.specs.Picture.{Picture, pictureOf, pictureWith}
-use Rattle.picture.specs.Answers.{Read}
+use Rattle.picture.specs.Inner.{Read}
 use Rattle.picture.proofs.Facts.{read-picture, read-sizes, read-slots-length, read-endpoints-length}
 use Rattle.network.specs.Words.{slotCount, endpointCount, blockCount}
 
@@ -34,7 +34,7 @@ module _ (bs : List ℕ) (h : Header) (r : Read bs h) where
   read-blocks = sym (ap₂ (λ (x y : ℕ). x / y) read-slots read-block-size)
 
   -- a block's slots are among the first 240 locations
-  pub read-block : (b : ℕ) → b < blockCount (pictureOf bs) → b * h .«block_size» + h .«block_size» ≤ slotsMost
+  pub read-block : (b : ℕ) → b < blockCount (pictureOf bs) → b * h .«block_size» + h .«block_size» ≤ slotsMax
   read-block b l =
       let f : b * h .«block_size» + h .«block_size» ≤ h .slots = block-fits (h .slots) (h .«block_size») b (rw read-blocks l) in
       omega (arith, read-sizes bs h r .slots-most)

@@ -47,7 +47,7 @@ module _ (p : Picture) (b : ℕ) (holding nearby block left : List ℕ) (s : Slo
 -- ---- service
 
 -- an endpoint is served exactly where its row has a mark in common with the row of what is reached
-pub serving : (p : Picture) (held : ℕ → Bool) (table : List (List ℕ)) (row parent depth : List ℕ) → Named p → RowsOf (λ c a. joins (p .services) a c) table
+pub serving : (p : Picture) (held : ℕ → Bool) (table : List (List ℕ)) (row parent depth : List ℕ) → Named p → RowsOf (λ c a. joins (p .serviceLinks) a c) table
     → Walked (joins (p .links)) held (marked row) parent depth → Meets table row (served p (marks p held))
 unfolding linkedIn
 serving p held table row parent depth n t w = record { meet = meet }
@@ -89,7 +89,7 @@ all-served p f = ap (weightWhere p) (fun-ext (λ c. whole (f c)))
 
 -- ---- what weighing gives
 
-module _ (p : Picture) (table : List (List ℕ)) (weights guarded : List ℕ) (d : ℕ) (named : Named p) (t : RowsOf (λ c a. joins (p .services) a c) table) (e : EndpointsOf p weights guarded)
+module _ (p : Picture) (table : List (List ℕ)) (weights guarded : List ℕ) (d : ℕ) (named : Named p) (t : RowsOf (λ c a. joins (p .serviceLinks) a c) table) (e : EndpointsOf p weights guarded)
     (many : d ≡ endpointCount p) (row parent depth : List ℕ) (now : Walked (joins (p .links)) (isHeld p) (marked row) parent depth) where
   pub served-value : (none : List ℕ) (w m : ℕ) → ((v : ℕ) → ¬ T (marked none v)) → LostBetween table weights guarded d row none w m → w ≡ servedWeight p
   unfolding servedWeight

@@ -4,9 +4,9 @@ ghost use mathlib.Core.Bool.{_&&_};
 ghost use mathlib.Core.List.{List};
 ghost use Prim.Native.Nat.{ℕ, _≤_, _<_};
 ghost use lib.ListN.{length};
-ghost use Rattle.rows.specs.Rows.{marked, Minus, locationsMost, marksMost};
+ghost use Rattle.rows.specs.Rows.{marked, Minus, locationsMax, marksMax};
 ghost use Rattle.picture.specs.Picture.{pictureOf};
-ghost use Rattle.picture.specs.Answers.{Read};
+ghost use Rattle.picture.specs.Inner.{Read};
 ghost use Rattle.picture.specs.Layout.{endpointsMax};
 ghost use Rattle.network.specs.Words.{blockCount};
 ghost use Rattle.weigh.specs.Sums.{Small, LostRow, LostBetween};
@@ -51,7 +51,7 @@ fn is_lost(row: [u64; WORDS], gone: [u64; WORDS], after: [u64; WORDS]) -> bool
 
 // Whether an endpoint is lost and protected.
 fn is_lost_protected(lost: bool, protected: &[u64; WORDS], c: usize) -> bool
-    requires { ⌜ c < marksMost ⌝ }
+    requires { ⌜ c < marksMax ⌝ }
     ensures { λ r. ⌜ r ≡ (marked (now (protected .entry)) c && lost) ⌝ }
 {
     if lost {
@@ -69,7 +69,7 @@ pub fn lost_between(
     before: [u64; WORDS],
     after: [u64; WORDS],
 ) -> Lost
-    requires { ⌜ Small (now weights) × (length (now services) ≡ locationsMost) × (d ≤ endpointsMax) ⌝ }
+    requires { ⌜ Small (now weights) × (length (now services) ≡ locationsMax) × (d ≤ endpointsMax) ⌝ }
     ensures { λ r. ⌜ LostBetween (now (services .entry)) (now (weights .entry)) protected d before after (r .weight) (r .mark) ⌝ }
 {
     let gone = rows::minus(before, after);
@@ -98,7 +98,7 @@ pub fn weigh_block(s: &[u8], h: Header, b: usize) -> Weights
     let size = h.block_size;
     let d = h.endpoints;
     let links = network::link_rows(s, h);
-    let services = network::service_rows(s, h);
+    let services = network::service_link_rows(s, h);
     let slots = network::slot_rows(s, h);
     let ends = network::endpoint_rows(s, h);
     let held = slots.held;

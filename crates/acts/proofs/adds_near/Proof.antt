@@ -7,7 +7,7 @@ use native.Mathlib.Omega.{arith}
 use Rattle.lists.specs.Lists.{range, any}
 use Rattle.picture.specs.declared.Header.{Header}
 use Rattle.picture.specs.Picture.{pictureOf}
-use Rattle.picture.specs.Answers.{Read}
+use Rattle.picture.specs.Inner.{Read}
 use Rattle.picture.proofs.Facts.{read-limited}
 use Rattle.network.specs.Words.{slotCount, blockCount}
 use Rattle.weigh.proofs.Blocks.{read-slots}

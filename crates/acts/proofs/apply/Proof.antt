@@ -1,7 +1,7 @@
 -- `apply` does an act on a block of any bytes, or refuses it. Assumes nothing.
 use mathlib.Core.Path.{sym, _∙_}
 use borrow.Author.Needs.{needs}
-use Rattle.picture.specs.Answers.{Read}
+use Rattle.picture.specs.Inner.{Read}
 use Rattle.picture.proofs.Answering.{accepted-read, refused-fault}
 use Rattle.acts.proofs.Answering.{faulty-picture, refused-answer, refused-bytes, done-answer, done-bytes, done-block}
 use Rattle.acts.proofs.apply.Statement.{statement}

@@ -10,7 +10,7 @@ use lib.Dec.{eqb}
 use Rattle.lists.specs.Lists.{range, any}
 use Rattle.picture.specs.declared.Header.{Header}
 use Rattle.picture.specs.Picture.{pictureOf}
-use Rattle.picture.specs.Answers.{Read}
+use Rattle.picture.specs.Inner.{Read}
 use Rattle.picture.proofs.Facts.{read-limited}
 use Rattle.acts.specs.declared.Act.{Act}
 use Rattle.acts.specs.Acts.{after}

@@ -8,7 +8,7 @@ use lib.ListN.{length}
 use Rattle.bits.specs.Bits.{putField}
 use Rattle.lists.specs.Lists.{range, sum}
 use Rattle.picture.specs.declared.Header.{Header}
-use Rattle.picture.specs.Answers.{Read}
+use Rattle.picture.specs.Inner.{Read}
 use Rattle.picture.specs.Layout.{edition1, slotWidths, slotsAt}
 use Rattle.picture.proofs.Facts.{read-limited}
 use Rattle.acts.specs.declared.Act.{Act}

@@ -1,6 +1,6 @@
 -- `check` tells the number of the first fault. Assumes nothing.
 use mathlib.Core.Path.{sym, _∙_}
-use Rattle.picture.specs.Answers.{Read}
+use Rattle.picture.specs.Inner.{Read}
 use Rattle.picture.proofs.Answering.{accepted-read, refused-fault}
 use Rattle.checker.proofs.Answering.{check-picture, told-passed, told-refused}
 use borrow.Author.Needs.{needs}

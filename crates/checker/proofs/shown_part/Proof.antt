@@ -4,9 +4,9 @@ use Prim.Native.Nat.{ℕ, _/_, _≤_}
 use native.Mathlib.Omega.{arith}
 use Rattle.bits.proofs.Reading.{fieldAt-lt}
 use Rattle.lists.specs.Lists.{sum}
-use Rattle.rows.specs.Rows.{slotsMost}
+use Rattle.rows.specs.Rows.{slotsMax}
 use Rattle.picture.specs.Layout.{fieldIn}
-use Rattle.picture.specs.Answers.{Read}
+use Rattle.picture.specs.Inner.{Read}
 use Rattle.picture.proofs.Answering.{accepted-read, refused-fault}
 use Rattle.picture.proofs.Facts.{read-sizes}
 use Rattle.weigh.proofs.Blocks.{read-slots}
@@ -24,7 +24,7 @@ use Rattle.checker.proofs.shown_part.Tie as tie
 accepted : (c : tie.After-h) → Read (c .before .before .before .before .before .args .s .now) (c .h .given .0 .0)
 accepted c = accepted-read _ _ (sym (c .h .given .1) ∙ c .before .before .read .ensures)
 
-few : (c : tie.After-h) → c .h .given .0 .0 .slots ≤ slotsMost
+few : (c : tie.After-h) → c .h .given .0 .0 .slots ≤ slotsMax
 few c = read-sizes _ _ (accepted c) .slots-most
 
 -- the empty part

@@ -3,7 +3,7 @@ use mathlib.Core.Path.{_≡_}
 use Prim.Native.Nat.{_+_, _*_}
 use native.Mathlib.Omega.{arith}
 use lib.ListN.{length}
-use Rattle.rows.specs.Rows.{locationsMost}
+use Rattle.rows.specs.Rows.{locationsMax}
 use Rattle.picture.specs.Picture.{pictureOf}
 use Rattle.picture.proofs.Facts.{read-limited}
 use Rattle.network.specs.Tests.{servedWeight}
@@ -26,9 +26,9 @@ walked c = c .before .before .before .before .before .before
 
 -- the rows of the picture
 abbrev rows : (c : tie.After-walk)
-    → WeighRows (start c .args .s .now) (start c .args .h) (c .before .before .before .before .before .link-rows .result) (c .before .before .before .before .service-rows .result) (c .before .before .before .endpoint-rows .result .weights) (c .before .before .before .endpoint-rows .result .protected) (c .walk .result .reached)
+    → WeighRows (start c .args .s .now) (start c .args .h) (c .before .before .before .before .before .link-rows .result) (c .before .before .before .before .service-link-rows .result) (c .before .before .before .endpoint-rows .result .weights) (c .before .before .before .endpoint-rows .result .protected) (c .walk .result .reached)
 rows c =
-    rows-made _ (start c .pre .read) (c .before .before .before .before .before .link-rows .ensures) (c .before .before .before .before .service-rows .ensures) (c .before .before .before .endpoint-rows .ensures) (start c .pre .slots) (c .walk .ensures)
+    rows-made _ (start c .pre .read) (c .before .before .before .before .before .link-rows .ensures) (c .before .before .before .before .service-link-rows .ensures) (c .before .before .before .endpoint-rows .ensures) (start c .pre .slots) (c .walk .ensures)
 
 -- all that is served
 served : (c : tie.After-lost-between) → c .lost-between .result .weight ≡ servedWeight (pictureOf (start (walked c) .args .s .now))
@@ -43,8 +43,8 @@ sectioned c =
 link-rows-requires : tie.Need-link-rows-requires
 link-rows-requires c κs = search needs
 
-service-rows-requires : tie.Need-service-rows-requires
-service-rows-requires c κs = search needs
+service-link-rows-requires : tie.Need-service-link-rows-requires
+service-link-rows-requires c κs = search needs
 
 endpoint-rows-requires : tie.Need-endpoint-rows-requires
 endpoint-rows-requires c κs = search needs
@@ -67,8 +67,8 @@ put-forest-requires c κs =
     let r = start w .pre .read in
     let e = length-for r in
     let s = read-limited _ _ r .slots in
-    let p : length (w .walk .result .parent) ≡ locationsMost = search needs in
-    let d : length (w .walk .result .depth) ≡ locationsMost = search needs in
+    let p : length (w .walk .result .parent) ≡ locationsMax = search needs in
+    let d : length (w .walk .result .depth) ≡ locationsMax = search needs in
     (omega (arith, start w .pre .room), omega arith, omega arith)
 
 mul-at : tie.Need-mul-at
@@ -116,7 +116,7 @@ write-evidence-spec =
     tie.close
     (tie.spec
     link-rows-requires
-    service-rows-requires
+    service-link-rows-requires
     endpoint-rows-requires
     walk-requires
     lost-between-requires

@@ -1,7 +1,7 @@
 -- `enter` gives the slots of a word their entries. The invariant: what is done of the word is entered. Assumes nothing.
 use Prim.Native.Nat.{_+_, _≤_}
 use native.Mathlib.Omega.{arith}
-use Rattle.rows.specs.Rows.{slotsMost}
+use Rattle.rows.specs.Rows.{slotsMax}
 use borrow.Author.Needs.{needs}
 use lib.Count.{trailingZeros, trailing-le}
 use Rattle.rows.proofs.Words.{word-here, word-less}
@@ -22,7 +22,7 @@ cast-v : tie.Need-cast-v Inv-loop μ-loop
 cast-v c = omega (arith, trailing-le 64 (c .before .loop .w))
 
 -- the next slot is a location
-inside : (c : tie.In-loop Inv-loop μ-loop) → c .before .before .args .base + trailingZeros 64 (c .before .loop .w) ≤ slotsMost
+inside : (c : tie.In-loop Inv-loop μ-loop) → c .before .before .args .base + trailingZeros 64 (c .before .loop .w) ≤ slotsMax
 inside c = c .before .before .pre .0 .within _ (word-here (c .before .loop .inv .left) (c .loop-test .taken))
 
 add-v : tie.Need-add-v Inv-loop μ-loop

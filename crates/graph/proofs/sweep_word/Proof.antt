@@ -1,7 +1,7 @@
 -- `sweep_word` sweeps the rows of a word's locations. The invariant: the rows of what is done of the word are swept. Assumes nothing.
 use Prim.Native.Nat.{_+_, _≤_}
 use native.Mathlib.Omega.{arith}
-use Rattle.rows.specs.Rows.{slotsMost}
+use Rattle.rows.specs.Rows.{slotsMax}
 use borrow.Author.Needs.{needs}
 use lib.Count.{trailingZeros, trailing-le}
 use Rattle.rows.proofs.Words.{word-here, word-less}
@@ -22,7 +22,7 @@ cast-u : tie.Need-cast-u Inv-loop μ-loop
 cast-u c = omega (arith, trailing-le 64 (c .before .loop .w))
 
 -- the next location is one
-inside : (c : tie.In-loop Inv-loop μ-loop) → c .before .before .args .base + trailingZeros 64 (c .before .loop .w) ≤ slotsMost
+inside : (c : tie.In-loop Inv-loop μ-loop) → c .before .before .args .base + trailingZeros 64 (c .before .loop .w) ≤ slotsMax
 inside c = c .before .before .pre .0 .within _ (word-here (c .before .loop .inv .left) (c .loop-test .taken))
 
 add-u : tie.Need-add-u Inv-loop μ-loop

@@ -2,7 +2,7 @@
 use mathlib.Core.Logic.{inl, inr, ⊎-elim}
 use Prim.Native.Nat.{_-_}
 use native.Mathlib.Omega.{arith}
-use Rattle.rows.specs.Rows.{slotsMost}
+use Rattle.rows.specs.Rows.{slotsMax}
 use borrow.Author.Needs.{needs}
 use Rattle.graph.proofs.Walks.{Walking, begun, frontier-locations, next, ended}
 use Rattle.graph.proofs.walk.Statement.{statement}
@@ -12,7 +12,7 @@ abbrev Inv-loop : tie.InvT-loop
 Inv-loop held links parent₀ depth₀ fresh₀ frontier₀ d₀ parent depth fresh frontier d = Walking links held d frontier fresh parent depth
 
 abbrev μ-loop : tie.MeasureT-loop
-μ-loop held links parent₀ depth₀ fresh₀ frontier₀ d₀ parent depth fresh frontier d = slotsMost - d
+μ-loop held links parent₀ depth₀ fresh₀ frontier₀ d₀ parent depth fresh frontier d = slotsMax - d
 
 array-write-frontier : tie.Need-array-write-frontier Inv-loop μ-loop
 array-write-frontier c = search needs

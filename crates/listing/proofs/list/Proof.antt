@@ -3,11 +3,11 @@ use mathlib.Core.Path.{_≡_, sym, ap, _∙_}
 use Prim.Native.Nat.{ℕ}
 use native.Mathlib.Omega.{arith}
 use lib.ListN.{length, take, replicate, length-take, length-replicate}
-use Rattle.picture.specs.Answers.{Read}
+use Rattle.picture.specs.Inner.{Read}
 use Rattle.picture.proofs.Answering.{accepted-read, refused-fault}
 use Rattle.picture.proofs.Facts.{read-sizes}
 use Rattle.weigh.proofs.Blocks.{read-slots}
-use Rattle.evidence.specs.Layout.{evidenceMost}
+use Rattle.evidence.specs.Layout.{evidenceMax}
 use Rattle.evidence.specs.Canonical.{evidenceOf}
 use Rattle.evidence.specs.Calls.{lengthFor}
 use Rattle.evidence.proofs.Fields.{candidates-few, length-evidence}
@@ -24,8 +24,8 @@ accepted : (c : tie.After-h) → Read (c .before .before .before .before .args .
 accepted c = accepted-read _ _ (sym (c .h .given .1) ∙ c .before .before .read .ensures)
 
 -- the space is as long as the longest evidence
-space-long : length (replicate {A = ℕ} evidenceMost 0) ≡ evidenceMost
-space-long = length-replicate {A = ℕ} evidenceMost 0
+space-long : length (replicate {A = ℕ} evidenceMax 0) ≡ evidenceMax
+space-long = length-replicate {A = ℕ} evidenceMax 0
 
 -- the length is that of the evidence
 told : (c : tie.After-length) → c .length .given .0 .0 ≡ lengthFor (c .before .before .before .before .before .before .before .before .before .before .args .s .now)
@@ -46,8 +46,8 @@ read-requires c κs = search needs
 enum-known-number : tie.Need-enum-known-number
 enum-known-number c = search needs
 
-put-refused-requires : tie.Need-put-refused-requires
-put-refused-requires c κs = search needs
+put-refused-line-requires : tie.Need-put-refused-line-requires
+put-refused-line-requires c κs = search needs
 
 enum-known-h : tie.Need-enum-known-h
 enum-known-h c = search needs
@@ -61,8 +61,8 @@ choose-requires c κs = search needs
 enum-known-number-2 : tie.Need-enum-known-number-2
 enum-known-number-2 c = search needs
 
-put-refused-requires-2 : tie.Need-put-refused-requires-2
-put-refused-requires-2 c κs = search needs
+put-refused-line-requires-2 : tie.Need-put-refused-line-requires-2
+put-refused-line-requires-2 c κs = search needs
 
 enum-known-length : tie.Need-enum-known-length
 enum-known-length c = search needs
@@ -82,7 +82,7 @@ put-lines-requires c κs =
 returns : tie.Need-returns
 returns c =
     let r = refused-fault _ _ (sym (c .before .before .before .number .given .1) ∙ c .before .before .before .before .before .read .ensures) in
-    text-whole _ (c .put-refused .ensures) (sym (listing-refused _ _ (r .0) (r .1)))
+    text-whole _ (c .put-refused-line .ensures) (sym (listing-refused _ _ (r .0) (r .1)))
 
 returns-2 : tie.Need-returns-2
 returns-2 c = absurd (never-refused _ _ (accepted (c .before .before .before .before .before .before .before .before .before) .accepted) space-long (sym (c .before .before .before .number2 .given .1) ∙ c .before .before .before .before .before .before .choose .ensures .0))
@@ -99,12 +99,12 @@ list-spec =
     (tie.spec
     read-requires
     enum-known-number
-    put-refused-requires
+    put-refused-line-requires
     enum-known-h
     slice-aggregate-choose
     choose-requires
     enum-known-number-2
-    put-refused-requires-2
+    put-refused-line-requires-2
     enum-known-length
     array-share-prefix-space
     slice-aggregate-put-lines

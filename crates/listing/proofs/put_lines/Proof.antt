@@ -21,7 +21,7 @@ abbrev μ-loop : tie.MeasureT-loop
 μ-loop text₀ ev n count at₀ i₀ text at i = count - i
 
 -- the count of sections is the head's
-counted : (c : tie.At-loop Inv-loop μ-loop) → c .before .before .before .before .before .field .result ≡ headIn (c .before .before .before .before .before .before .before .before .args .ev .now) 3
+counted : (c : tie.At-loop Inv-loop μ-loop) → c .before .before .before .before .before .field .result ≡ headIn (c .before .before .before .before .before .before .before .before .args .ev .now) .count
 unfolding headIn headWidths fieldIn sum
 counted c = c .before .before .before .before .before .field .ensures
 
@@ -33,19 +33,19 @@ few c = rw (counted c) (c .before .before .before .before .before .before .befor
 room : (c : tie.At-loop Inv-loop μ-loop) → c .loop .at + 43 ≤ length (c .loop .text)
 room c =
     let b = c .before .before .before in
-    omega (arith, few c, c .loop .inv .0, c .loop .inv .1 .low, text-long (c .loop .inv .1 .texted), text-long (b .put-served .ensures), b .before .before .before .before .before .pre .2)
+    omega (arith, few c, c .loop .inv .0, c .loop .inv .1 .low, text-long (c .loop .inv .1 .texted), text-long (b .put-served-line .ensures), b .before .before .before .before .before .pre .2)
 
 field-requires : tie.Need-field-requires Inv-loop μ-loop
 field-requires c κs = search needs
 
-put-served-requires : tie.Need-put-served-requires Inv-loop μ-loop
-put-served-requires c κs = search needs
+put-served-line-requires : tie.Need-put-served-line-requires Inv-loop μ-loop
+put-served-line-requires c κs = search needs
 
 loop-holds : tie.Need-loop-holds Inv-loop μ-loop
-loop-holds c = (omega arith, telling-begun _ _ (c .before .before .put-served .ensures))
+loop-holds c = (omega arith, telling-begun _ _ (c .before .before .put-served-line .ensures))
 
-put-section-requires : tie.Need-put-section-requires Inv-loop μ-loop
-put-section-requires c κs = (c .before .before .before .before .before .before .before .before .before .before .pre .0, omega (arith, few (c .before .before)), room (c .before .before))
+put-block-line-requires : tie.Need-put-block-line-requires Inv-loop μ-loop
+put-block-line-requires c κs = (c .before .before .before .before .before .before .before .before .before .before .pre .0, omega (arith, few (c .before .before)), room (c .before .before))
 
 add-i : tie.Need-add-i Inv-loop μ-loop
 add-i c = search needs
@@ -54,22 +54,22 @@ loop-less : tie.Need-loop-less Inv-loop μ-loop
 loop-less c = search needs
 
 loop-again : tie.Need-loop-again Inv-loop μ-loop
-loop-again c = (omega arith, telling-next _ _ (c .before .before .before .before .before .loop .i) (c .before .before .before .before .before .loop .inv .1) (c .before .before .put-section .ensures))
+loop-again c = (omega arith, telling-next _ _ (c .before .before .before .before .before .loop .i) (c .before .before .before .before .before .loop .inv .1) (c .before .before .put-block-line .ensures))
 
-put-choice-requires : tie.Need-put-choice-requires Inv-loop μ-loop
-put-choice-requires c κs = room (c .before .before)
+put-choice-line-requires : tie.Need-put-choice-line-requires Inv-loop μ-loop
+put-choice-line-requires c κs = room (c .before .before)
 
 same-length : tie.Need-same-length Inv-loop μ-loop
 same-length c =
     let l = c .before .before .before .before .before in
-    text-long (c .before .before .put-choice .ensures) ∙ text-long (l .loop .inv .1 .texted) ∙ text-long (l .before .before .before .put-served .ensures)
+    text-long (c .before .before .put-choice-line .ensures) ∙ text-long (l .loop .inv .1 .texted) ∙ text-long (l .before .before .before .put-served-line .ensures)
 
 returns : tie.Need-returns Inv-loop μ-loop
 unfolding evidenceLines
 returns c =
     let l = c .before .before .before .before .before in
-    let e : l .loop .i ≡ headIn (l .before .before .before .before .before .before .before .before .args .ev .now) 3 = omega (arith, counted l, l .loop .inv .0) in
-    text-then (l .before .before .before .put-served .ensures) (text-then (rw e at (l .loop .inv .1 .texted)) (c .before .before .put-choice .ensures))
+    let e : l .loop .i ≡ headIn (l .before .before .before .before .before .before .before .before .args .ev .now) .count = omega (arith, counted l, l .loop .inv .0) in
+    text-then (l .before .before .before .put-served-line .ensures) (text-then (rw e at (l .loop .inv .1 .texted)) (c .before .before .put-choice-line .ensures))
 
 pub put-lines-spec : {M : Type 1} → statement M
 put-lines-spec =
@@ -78,12 +78,12 @@ put-lines-spec =
     Inv-loop
     μ-loop
     field-requires
-    put-served-requires
+    put-served-line-requires
     loop-holds
-    put-section-requires
+    put-block-line-requires
     add-i
     loop-less
     loop-again
-    put-choice-requires
+    put-choice-line-requires
     same-length
     returns)

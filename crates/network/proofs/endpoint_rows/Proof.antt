@@ -6,7 +6,7 @@ use Prim.Native.Nat.{ℕ, _+_, _-_, _≤_}
 use mathlib.Core.Logic.{⊎-elim}
 use Rattle.rows.specs.Rows.{rowWords}
 use Rattle.picture.specs.declared.Header.{Header}
-use Rattle.picture.specs.Answers.{Read}
+use Rattle.picture.specs.Inner.{Read}
 use Rattle.picture.specs.Picture.{Picture, pictureOf, endpointOf}
 use Rattle.picture.proofs.Facts.{read-picture, read-limited, read-endpoints-length}
 use Rattle.picture.specs.Layout.{endpointsMax}

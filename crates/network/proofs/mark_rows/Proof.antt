@@ -10,7 +10,7 @@ use lib.ListN.{length, getD, length-map, List·getD-map}
 use Rattle.lists.specs.Lists.{any}
 use Rattle.picture.specs.declared.Header.{Header}
 use Rattle.picture.specs.declared.Link.{Link}
-use Rattle.picture.specs.Answers.{Read}
+use Rattle.picture.specs.Inner.{Read}
 use Rattle.picture.specs.Layout.{edition1}
 use Rattle.picture.specs.Picture.{Picture, pictureOf, pictureWith}
 use Rattle.picture.specs.Rules.{noLink}
@@ -35,25 +35,25 @@ joins-turned (l ∷ ls) a b = ap₂ _||_ (and-comm (eqb (l .to) a) (eqb (l .from
 -- the marks of the table, each a link from its row to what that row marks
 abbrev marksOf : Bool → Picture → List Link
 marksOf false p = p .links
-marksOf true p = map turned (p .services)
+marksOf true p = map turned (p .serviceLinks)
 
 -- once all are there, the table is the one that is asked for
 all-marked : (b : Bool) (p : Picture) (table : List (List ℕ)) → RowsOf (joins (marksOf b p)) table → RowsOf (tableOf b p) table
 all-marked false p table r = r
-all-marked true p table r = record { many = r .many; same = λ c a. r .same c a ∙ joins-turned (p .services) c a }
+all-marked true p table r = record { many = r .many; same = λ c a. r .same c a ∙ joins-turned (p .serviceLinks) c a }
 
 module _ (s : List ℕ) (h : Header) (r : Read s h) where
   -- they are as many as the header says
   long : (b : Bool) → length (marksOf b (pictureOf s)) ≡ countOf b h
   long false = read-links-length s h r
-  long true = length-map (pictureOf s .services) turned ∙ read-services-length s h r
+  long true = length-map (pictureOf s .serviceLinks) turned ∙ read-services-length s h r
 
   -- what is read is a mark
   link : (b : Bool) (i : ℕ) (l : Link) → b ≡ false → l ≡ getD (pictureWith edition1 h s .links) i noLink → l ≡ getD (marksOf b (pictureOf s)) i noLink
   link b i l f e = rw (f, sym (read-picture s h r)) e
 
-  service : (b : Bool) (i : ℕ) (l : Link) → b ≡ true → l ≡ getD (pictureWith edition1 h s .services) i noLink → turned l ≡ getD (marksOf b (pictureOf s)) i noLink
-  service b i l t e = rw (t, sym (read-picture s h r)) (ap turned e ∙ sym (List·getD-map turned (pictureWith edition1 h s .services) i noLink))
+  service : (b : Bool) (i : ℕ) (l : Link) → b ≡ true → l ≡ getD (pictureWith edition1 h s .serviceLinks) i noLink → turned l ≡ getD (marksOf b (pictureOf s)) i noLink
+  service b i l t e = rw (t, sym (read-picture s h r)) (ap turned e ∙ sym (List·getD-map turned (pictureWith edition1 h s .serviceLinks) i noLink))
 
 abbrev Inv-loop : tie.InvT-loop
 Inv-loop s h count services table₀ i₀ table i = Linking (marksOf services (pictureOf s)) table i
@@ -78,7 +78,7 @@ mark-requires c κs =
     let k = read-services _ _ (p .0) in
     let z = read-sizes _ _ (p .0) in
     let n = read-limited _ _ (p .0) in
-    let small : l .i < length (pictureOf (a .s .now) .services) = omega (arith, read-services-length _ _ (p .0), nth-service-link-requires (c .before .before) κs .1) in
+    let small : l .i < length (pictureOf (a .s .now) .serviceLinks) = omega (arith, read-services-length _ _ (p .0), nth-service-link-requires (c .before .before) κs .1) in
     rw (c .before .nth-service-link .ensures, read-picture _ _ (p .0)) (l .inv .many, omega (arith, k .endpoint-most (l .i) small), omega (arith, k .location (l .i) small))
 
 nth-link-requires : tie.Need-nth-link-requires Inv-loop μ-loop

@@ -4,9 +4,9 @@ use native.Mathlib.Omega.{arith}
 use mathlib.Core.List.{List}
 use Prim.Native.Nat.{ℕ, _+_, _-_, _≤_}
 use mathlib.Core.Logic.{⊎-elim}
-use Rattle.rows.specs.Rows.{slotsMost, rowWords}
+use Rattle.rows.specs.Rows.{slotsMax, rowWords}
 use Rattle.picture.specs.declared.Header.{Header}
-use Rattle.picture.specs.Answers.{Read}
+use Rattle.picture.specs.Inner.{Read}
 use Rattle.picture.specs.Picture.{pictureOf}
 use Rattle.picture.proofs.Facts.{read-limited, read-slots-length}
 use Rattle.network.specs.Words.{isHeld}
@@ -29,7 +29,7 @@ Inv-loop s h n held₀ near₀ v₀ held near v = Loop s h held near v
 abbrev μ-loop : tie.MeasureT-loop
 μ-loop s h n held₀ near₀ v₀ held near v = h .slots + 1 - v
 
-small : (c : tie.At-loop Inv-loop μ-loop) → c .before .before .args .h .slots ≤ slotsMost
+small : (c : tie.At-loop Inv-loop μ-loop) → c .before .before .args .h .slots ≤ slotsMax
 small c = read-limited _ _ (c .loop .inv .read) .slots
 
 -- the slot at hand is looked at, and marked if it is held

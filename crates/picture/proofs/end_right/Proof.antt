@@ -7,7 +7,8 @@ use lib.Dec.{eqb}
 use lib.ListN.{length}
 use borrow.Author.Tests.{eq-eqb, ne-eqb}
 use Rattle.bits.specs.Bits.{fieldAt}
-use Rattle.picture.specs.Layout.{edition1, endAt, placesOf, sizeOf}
+use Rattle.picture.specs.Layout.{edition1, endAt, sizeOf}
+use Rattle.picture.specs.Inner.{placesOf}
 use Rattle.picture.specs.declared.Header.{Header}
 use Rattle.picture.specs.declared.Places.{Places}
 use Rattle.picture.specs.Faults.{endRight}

@@ -4,7 +4,8 @@ use Prim.Native.Nat.{_+_, _-_, _*_}
 use native.Mathlib.Omega.{arith}
 use Rattle.bits.specs.Bits.{fieldAt}
 use Rattle.lists.specs.Lists.{sum}
-use Rattle.picture.specs.Layout.{edition1, placesOf, endpointWidths}
+use Rattle.picture.specs.Layout.{edition1, endpointWidths}
+use Rattle.picture.specs.Inner.{placesOf}
 use Rattle.picture.specs.Picture.{Endpoint, endpointAt}
 use Rattle.picture.specs.declared.Places.{Places}
 use Rattle.picture.proofs.Starts.{ordered, field-first, endpoint-row}

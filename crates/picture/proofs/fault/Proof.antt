@@ -12,8 +12,8 @@ use Rattle.lists.proofs.Faults.{skip-at, stop-at}
 use Rattle.picture.specs.declared.Header.{Header}
 use Rattle.picture.specs.Layout.{edition1, headerWidths, fieldIn, sizeOf}
 use Rattle.picture.specs.Picture.{headerIn, pictureWith}
-use Rattle.picture.specs.Faults.{sizesRight, countsRight, partFaults, faultsWith, pictureFault}
-use Rattle.picture.specs.Rules.{Limited}
+use Rattle.picture.specs.Faults.{sizesRight, countsRight, bodyFaults, faultsWith, pictureFault}
+use Rattle.picture.specs.Inner.{Limited}
 use Rattle.picture.proofs.Judging.{right-limited}
 use borrow.Author.Needs.{needs}
 use Rattle.picture.proofs.fault.Statement.{statement}
@@ -103,12 +103,12 @@ returns-5 : tie.Need-returns-5
 unfolding pictureFault faultsWith on
 returns-5 c = past-counts (c .before .before) (stop-at {x = 1} _ (λ z. absurd (omega arith)) (sym (ap (λ (b : Bool). on b 1) (ap (ltb (length (c .before .before .before .before .before .before .before .before .before .before .before .args .s .now))) (sym (asked (c .before))) ∙ lt-ltb _ _ (c .if5 .taken)))))
 
-parts-fault-requires : tie.Need-parts-fault-requires
-parts-fault-requires c κs = limited (c .before .before)
+body-fault-requires : tie.Need-body-fault-requires
+body-fault-requires c κs = limited (c .before .before)
 
 returns-6 : tie.Need-returns-6
 unfolding pictureFault faultsWith
-returns-6 c = past-size (c .before) (c .parts-fault .ensures ∙ ap (λ (h : Header). first (partFaults edition1 h (pictureWith edition1 h (c .before .before .before .before .before .before .before .before .before .before .before .before .args .s .now)) (c .before .before .before .before .before .before .before .before .before .before .before .before .args .s .now))) (c .before .before .before .before .before .before .before .header-of .ensures))
+returns-6 c = past-size (c .before) (c .body-fault .ensures ∙ ap (λ (h : Header). first (bodyFaults edition1 h (pictureWith edition1 h (c .before .before .before .before .before .before .before .before .before .before .before .before .args .s .now)) (c .before .before .before .before .before .before .before .before .before .before .before .before .args .s .now))) (c .before .before .before .before .before .before .before .header-of .ensures))
 
 pub fault-spec : {M : Type 1} → statement M
 fault-spec =
@@ -124,5 +124,5 @@ fault-spec =
     returns-4
     size-of-requires
     returns-5
-    parts-fault-requires
+    body-fault-requires
     returns-6)

@@ -1,7 +1,8 @@
 -- `find_places` finds where the parts of a picture start. Assumes nothing.
 use mathlib.Core.Path.{refl}
 use Rattle.lists.specs.Lists.{sum}
-use Rattle.picture.specs.Layout.{placesOf, slotsAt, headerWidths, slotWidths, endpointsAt, endpointWidths, linksAt, linkWidths, servicesAt, serviceWidths, endAt}
+use Rattle.picture.specs.Layout.{slotsAt, headerWidths, slotWidths, endpointsAt, endpointWidths, linksAt, linkWidths, serviceLinksAt, serviceLinkWidths, endAt}
+use Rattle.picture.specs.Inner.{placesOf}
 use borrow.Author.Needs.{needs}
 use Rattle.picture.proofs.find_places.Statement.{statement}
 use Rattle.picture.proofs.find_places.Tie as tie
@@ -18,11 +19,11 @@ mul-links c = search needs
 add-links : tie.Need-add-links
 add-links c = search needs
 
-mul-services : tie.Need-mul-services
-mul-services c = search needs
+mul-service-links : tie.Need-mul-service-links
+mul-service-links c = search needs
 
-add-services : tie.Need-add-services
-add-services c = search needs
+add-service-links : tie.Need-add-service-links
+add-service-links c = search needs
 
 mul-end : tie.Need-mul-end
 mul-end c = search needs
@@ -31,7 +32,7 @@ add-end : tie.Need-add-end
 add-end c = search needs
 
 returns : tie.Need-returns
-unfolding placesOf slotsAt headerWidths slotWidths endpointsAt endpointWidths linksAt linkWidths servicesAt serviceWidths endAt sum
+unfolding placesOf slotsAt headerWidths slotWidths endpointsAt endpointWidths linksAt linkWidths serviceLinksAt serviceLinkWidths endAt sum
 returns c = refl
 
 pub find-places-spec : {M : Type 1} → statement M
@@ -42,8 +43,8 @@ find-places-spec =
     add-endpoints
     mul-links
     add-links
-    mul-services
-    add-services
+    mul-service-links
+    add-service-links
     mul-end
     add-end
     returns)

@@ -3,7 +3,8 @@ use mathlib.Core.Path.{sym, ap, _∙_}
 use Prim.Native.Nat.{_+_, _-_, _*_}
 use native.Mathlib.Omega.{arith}
 use Rattle.lists.specs.Lists.{sum}
-use Rattle.picture.specs.Layout.{edition1, placesOf, linkWidths}
+use Rattle.picture.specs.Layout.{edition1, linkWidths}
+use Rattle.picture.specs.Inner.{placesOf}
 use Rattle.picture.specs.Picture.{linkAt}
 use Rattle.picture.specs.declared.Places.{Places}
 use Rattle.picture.proofs.Starts.{ordered, link-row}

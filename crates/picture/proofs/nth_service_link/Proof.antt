@@ -3,7 +3,8 @@ use mathlib.Core.Path.{sym, ap, _∙_}
 use Prim.Native.Nat.{_+_, _-_, _*_}
 use native.Mathlib.Omega.{arith}
 use Rattle.lists.specs.Lists.{sum}
-use Rattle.picture.specs.Layout.{edition1, placesOf, serviceWidths}
+use Rattle.picture.specs.Layout.{edition1, serviceLinkWidths}
+use Rattle.picture.specs.Inner.{placesOf}
 use Rattle.picture.specs.Picture.{linkAt}
 use Rattle.picture.specs.declared.Places.{Places}
 use Rattle.picture.proofs.Starts.{ordered, service-row}
@@ -19,16 +20,16 @@ mul-link-at c = search needs
 
 add-link-at : tie.Need-add-link-at
 unfolding placesOf
-add-link-at c = omega (arith, ordered _ (c .before .before .before .pre .0), ap (λ (p : Places). p .services) (c .before .find-places .ensures))
+add-link-at c = omega (arith, ordered _ (c .before .before .before .pre .0), ap (λ (p : Places). p .«service_links») (c .before .find-places .ensures))
 
 link-at-requires : tie.Need-link-at-requires
 link-at-requires c κs = search needs
 
 returns : tie.Need-returns
-unfolding placesOf serviceWidths sum
+unfolding placesOf serviceLinkWidths sum
 returns c =
     let a = c .before .before .before .before .args in
-    c .link-at .ensures ∙ ap (λ (p : Places). linkAt (serviceWidths edition1) (a .s .now) (p .services + a .i * 16)) (c .before .before .find-places .ensures)
+    c .link-at .ensures ∙ ap (λ (p : Places). linkAt (serviceLinkWidths edition1) (a .s .now) (p .«service_links» + a .i * 16)) (c .before .before .find-places .ensures)
     ∙ sym (service-row edition1 (a .h) (a .s .now) (a .i) (c .before .before .before .before .pre .1))
 
 pub nth-service-link-spec : {M : Type 1} → statement M

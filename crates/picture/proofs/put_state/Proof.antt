@@ -4,7 +4,7 @@ use native.Mathlib.Omega.{arith}
 use Rattle.lists.specs.Lists.{sum}
 use Rattle.picture.specs.declared.Header.{Header}
 use Rattle.picture.specs.Layout.{edition1, slotsAt, headerWidths, slotWidths, endpointsAt, sizeOf}
-use Rattle.picture.specs.Rules.{Limited}
+use Rattle.picture.specs.Inner.{Limited}
 use Rattle.picture.proofs.Starts.{ordered, rounded}
 use borrow.Author.Needs.{needs}
 use Rattle.picture.proofs.put_state.Statement.{statement}

@@ -2,7 +2,8 @@
 use mathlib.Core.Path.{ap}
 use native.Mathlib.Omega.{arith}
 use Prim.Native.Nat.{_+_, _/_}
-use Rattle.picture.specs.Layout.{placesOf, sizeOf}
+use Rattle.picture.specs.Layout.{sizeOf}
+use Rattle.picture.specs.Inner.{placesOf}
 use Rattle.picture.specs.declared.Places.{Places}
 use Rattle.picture.proofs.Starts.{ordered}
 use borrow.Author.Needs.{needs}

@@ -1,7 +1,7 @@
 -- `weigh` weighs a block of any bytes. Assumes nothing.
 use mathlib.Core.Path.{sym, ap, _∙_}
 use native.Mathlib.Omega.{arith}
-use Rattle.picture.specs.Answers.{Read}
+use Rattle.picture.specs.Inner.{Read}
 use Rattle.picture.proofs.Answering.{accepted-read, refused-fault}
 use Rattle.picture.proofs.Facts.{read-sizes}
 use Rattle.weigh.specs.declared.Weighing.the-variants.{Weighed}

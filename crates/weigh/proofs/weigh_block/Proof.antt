@@ -3,7 +3,7 @@ use mathlib.Core.Path.{_≡_}
 use Prim.Native.Nat.{ℕ, _≤_}
 use lib.Dec.{T, T-not}
 use lib.ListN.{length, replicate}
-use Rattle.rows.specs.Rows.{marked, locationsMost, rowWords}
+use Rattle.rows.specs.Rows.{marked, locationsMax, rowWords}
 use Rattle.graph.specs.Steps.{Walked}
 use Rattle.picture.specs.Picture.{pictureOf}
 use Rattle.picture.proofs.Facts.{read-limited}
@@ -38,16 +38,16 @@ left-walked c =
     walked-over (pictureOf (c .before .before .before .before .before .before .before .before .before .before .args .s .now)) _ _ _ _ _ _ (c .before .before .before .before .before .before .before .before .link-rows .ensures) (left-held _ _ _ _ _ _ (c .before .before .before .before .before .before .slot-rows .ensures) (block (c .before)) (c .before .before .minus .ensures)) (c .walk2 .ensures)
 
 -- what the sums need of the rows
-ready : (c : tie.After-walk2) → Small (c .before .before .before .before .before .endpoint-rows .result .weights) × (length (c .before .before .before .before .before .before .before .service-rows .result) ≡ locationsMost) × (c .before .before .before .before .before .before .before .before .before .before .args .h .endpoints ≤ endpointsMax)
+ready : (c : tie.After-walk2) → Small (c .before .before .before .before .before .endpoint-rows .result .weights) × (length (c .before .before .before .before .before .before .before .service-link-rows .result) ≡ locationsMax) × (c .before .before .before .before .before .before .before .before .before .before .args .h .endpoints ≤ endpointsMax)
 ready c =
     let e = c .before .before .before .before .before .endpoint-rows .ensures in
-    (record { many = e .many; weight = λ u. rw (e .weight u) (weight-small (c .before .before .before .before .before .before .before .before .before .before .args .s .now) u) }, c .before .before .before .before .before .before .before .service-rows .ensures .many, read-limited _ _ (c .before .before .before .before .before .before .before .before .before .before .pre .0) .counts .endpoints-most)
+    (record { many = e .many; weight = λ u. rw (e .weight u) (weight-small (c .before .before .before .before .before .before .before .before .before .before .args .s .now) u) }, c .before .before .before .before .before .before .before .service-link-rows .ensures .many, read-limited _ _ (c .before .before .before .before .before .before .before .before .before .before .pre .0) .counts .endpoints-most)
 
 link-rows-requires : tie.Need-link-rows-requires
 link-rows-requires c κs = search needs
 
-service-rows-requires : tie.Need-service-rows-requires
-service-rows-requires c κs = search needs
+service-link-rows-requires : tie.Need-service-link-rows-requires
+service-link-rows-requires c κs = search needs
 
 slot-rows-requires : tie.Need-slot-rows-requires
 slot-rows-requires c κs = search needs
@@ -79,7 +79,7 @@ returns c =
     let k = c .before .before .before .before .before .before .before .before .before .before in
     let a = c .before .before .before .before .before .before .before .before .before .before .before .before .before .before .before .before .before .before .before .before .args in
     let p = pictureOf (a .s .now) in
-    let s = c .before .before .before .before .before .before .before .before .before .before .before .before .before .before .before .before .before .service-rows .ensures in
+    let s = c .before .before .before .before .before .before .before .before .before .before .before .before .before .before .before .before .before .service-link-rows .ensures in
     let e = c .before .before .before .before .before .before .before .before .before .before .before .before .before .before .before .endpoint-rows .ensures in
     let d = read-endpoints _ _ (c .before .before .before .before .before .before .before .before .before .before .before .before .before .before .before .before .before .before .before .before .pre .0) in
     let named = accepted-named (a .s .now) (c .before .before .before .before .before .before .before .before .before .before .before .before .before .before .before .before .before .before .before .before .pre .0 .accepted) in
@@ -93,7 +93,7 @@ weigh-block-spec =
     tie.close
     (tie.spec
     link-rows-requires
-    service-rows-requires
+    service-link-rows-requires
     slot-rows-requires
     endpoint-rows-requires
     block-row-requires

@@ -8,7 +8,7 @@ use Rattle.picture.specs.declared.Link.{Link}
 use Rattle.picture.specs.Picture.{linkAt}
 use Rattle.picture.proofs.Starts.{link-halves}
 use Rattle.evidence.specs.Layout.{nodeWidths}
-use Rattle.evidence.specs.Checks.{nodeIn}
+use Rattle.evidence.specs.Checks.{nodeAt}
 use Rattle.checker.specs.Following.{nodeFrom}
 use borrow.Author.Needs.{needs}
 use Rattle.checker.proofs.following.node_at.Statement.{statement}
@@ -30,7 +30,7 @@ sub-t6 : tie.Need-sub-t6
 sub-t6 c = search needs
 
 returns : tie.Need-returns
-unfolding nodeFrom nodeIn nodeWidths sum linkAt
+unfolding nodeFrom nodeAt nodeWidths sum linkAt
 returns c =
     let a = c .before .before .args in
     let e = link-halves (a .ev .now) 8 8 (a .q + (a .v - 1) * 16) (c .field .ensures) in

@@ -6,7 +6,7 @@ use native.Mathlib.Omega.{arith}
 use borrow.Author.Tests.{not-true, not-false, eq-eqb, ne-eqb}
 use lib.Dec.{eqb}
 use Rattle.rows.specs.Rows.{linkedIn}
-use Rattle.graph.specs.Rounds.{Node}
+use Rattle.graph.specs.declared.Node.{Node}
 use Rattle.graph.specs.Kept.{nodeOf}
 use Rattle.graph.specs.Held.{heldIn}
 use Rattle.graph.proofs.Held.{slot-held}

@@ -7,8 +7,8 @@ use native.Mathlib.Omega.{arith}
 use borrow.Author.Needs.{needs}
 use borrow.Author.Tests.{not-true, not-false}
 use lib.ListN.{replicate}
-use Rattle.rows.specs.Rows.{linkedIn, slotsMost, rowWords}
-use Rattle.graph.specs.Rounds.{Node}
+use Rattle.rows.specs.Rows.{linkedIn, slotsMax, rowWords}
+use Rattle.graph.specs.declared.Node.{Node}
 use Rattle.graph.specs.Held.{heldIn}
 use Rattle.picture.specs.Layout.{edition1, blocksMax}
 use Rattle.picture.proofs.Facts.{read-limited}
@@ -56,7 +56,7 @@ abbrev μ-check : tie.MeasureT-check
 
 -- what the rows say, and that the evidence has its form
 tables : (c : tie.After-protected Inv-loop μ-loop Inv-loop2 μ-loop2 Inv-check μ-check)
-    → Tables (c .before .before .before .before .before .before .before .args .s .now) (c .before .before .before .before .before .before .before .args .ev .now) (c .before .before .before .before .before .before .before .args .held) (c .before .before .before .before .before .before .before .args .count) (c .before .before .before .before .before .before .before .args .h .slots) (c .before .before .before .before .before .before .before .args .h .«block_size») (c .before .before .before .before .before .before .before .args .h .endpoints) (c .before .before .before .before .link-rows .result) (c .before .before .before .service-rows .result) (c .before .before .endpoint-rows .result .weights) (c .before .before .endpoint-rows .result .protected)
+    → Tables (c .before .before .before .before .before .before .before .args .s .now) (c .before .before .before .before .before .before .before .args .ev .now) (c .before .before .before .before .before .before .before .args .held) (c .before .before .before .before .before .before .before .args .count) (c .before .before .before .before .before .before .before .args .h .slots) (c .before .before .before .before .before .before .before .args .h .«block_size») (c .before .before .before .before .before .before .before .args .h .endpoints) (c .before .before .before .before .link-rows .result) (c .before .before .before .service-link-rows .result) (c .before .before .endpoint-rows .result .weights) (c .before .before .endpoint-rows .result .protected)
 tables c =
     let r = c .before .before .before .before .before .before .before .pre .0 in
     record {
@@ -64,7 +64,7 @@ tables c =
       near = c .before .before .before .before .before .before .before .pre .1 .0;
       slots = c .before .before .before .before .before .before .before .pre .1 .1;
       link-rows = c .before .before .before .before .link-rows .ensures;
-      service-rows = c .before .before .before .service-rows .ensures;
+      service-rows = c .before .before .before .service-link-rows .ensures;
       end-rows = c .before .before .endpoint-rows .ensures;
       many = sym (read-slots _ _ r);
       block-size = sym (read-block-size _ _ r);
@@ -74,7 +74,7 @@ tables c =
     }
 
 -- there are few slots and few parts
-few-slots : (c : tie.After-protected Inv-loop μ-loop Inv-loop2 μ-loop2 Inv-check μ-check) → c .before .before .before .before .before .before .before .args .h .slots ≤ slotsMost
+few-slots : (c : tie.After-protected Inv-loop μ-loop Inv-loop2 μ-loop2 Inv-check μ-check) → c .before .before .before .before .before .before .before .args .h .slots ≤ slotsMax
 few-slots c = read-limited _ _ (c .before .before .before .before .before .before .before .pre .0) .slots
 
 few-parts : (c : tie.After-protected Inv-loop μ-loop Inv-loop2 μ-loop2 Inv-check μ-check) → c .before .before .before .before .before .before .before .args .count ≤ blocksMax
@@ -132,9 +132,9 @@ link-rows-requires :
     tie.Need-link-rows-requires Inv-loop μ-loop Inv-loop2 μ-loop2 Inv-check μ-check
 link-rows-requires c κs = search needs
 
-service-rows-requires :
-    tie.Need-service-rows-requires Inv-loop μ-loop Inv-loop2 μ-loop2 Inv-check μ-check
-service-rows-requires c κs = search needs
+service-link-rows-requires :
+    tie.Need-service-link-rows-requires Inv-loop μ-loop Inv-loop2 μ-loop2 Inv-check μ-check
+service-link-rows-requires c κs = search needs
 
 endpoint-rows-requires :
     tie.Need-endpoint-rows-requires Inv-loop μ-loop Inv-loop2 μ-loop2 Inv-check μ-check
@@ -227,7 +227,7 @@ lost-between-requires :
     tie.Need-lost-between-requires Inv-loop μ-loop Inv-loop2 μ-loop2 Inv-check μ-check
 lost-between-requires c κs =
     let t = tables (c .before .before .before .before .before .before .before .before .before .before .before .before .before .before .before) in
-    (record { many = t .end-rows .many; weight = λ u. rw (t .end-rows .weight u) (weight-small _ u) }, t .service-rows .many, read-limited _ _ (c .before .before .before .before .before .before .before .before .before .before .before .before .before .before .before .before .before .before .before .before .before .before .pre .0) .counts .endpoints-most)
+    (record { many = t .end-rows .many; weight = λ u. rw (t .end-rows .weight u) (weight-small _ u) }, t .service-link-rows .many, read-limited _ _ (c .before .before .before .before .before .before .before .before .before .before .before .before .before .before .before .before .before .before .before .before .before .before .pre .0) .counts .endpoints-most)
 
 stated-right-requires :
     tie.Need-stated-right-requires Inv-loop μ-loop Inv-loop2 μ-loop2 Inv-check μ-check
@@ -271,7 +271,7 @@ parts-fault-spec =
     Inv-check
     μ-check
     link-rows-requires
-    service-rows-requires
+    service-link-rows-requires
     endpoint-rows-requires
     check-holds
     mul-q

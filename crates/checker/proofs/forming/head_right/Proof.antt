@@ -18,7 +18,7 @@ right-length : (c : tie.Else1) → eqb (length (c .before .before .before .args 
 unfolding evidenceBytes
 right-length c = eq-eqb _ _ (c .if1 .left ∙ ap (λ (x : ℕ). x / 8) (c .before .section-at .ensures))
 
-right-edition : (c : tie.Else2) → eqb (headIn (c .before .before .before .before .before .args .ev .now) 0) 1 ≡ true
+right-edition : (c : tie.Else2) → eqb (headIn (c .before .before .before .before .before .args .ev .now) .edition) 1 ≡ true
 unfolding headIn headWidths fieldIn sum
 right-edition c = eq-eqb _ _ (sym (c .before .field .ensures) ∙ c .if2 .left)
 
@@ -34,21 +34,21 @@ field-requires c κs = search needs
 
 returns-2 : tie.Need-returns-2
 unfolding headTest headIn headWidths fieldIn sum
-returns-2 c = rw (right-length (c .before .before), ne-eqb (headIn (c .before .before .before .before .before .args .ev .now) 0) 1 (λ z. c .if2 .taken (c .before .field .ensures ∙ z)))
+returns-2 c = rw (right-length (c .before .before), ne-eqb (headIn (c .before .before .before .before .before .args .ev .now) .edition) 1 (λ z. c .if2 .taken (c .before .field .ensures ∙ z)))
 
 field-requires-2 : tie.Need-field-requires-2
 field-requires-2 c κs = search needs
 
 returns-3 : tie.Need-returns-3
 unfolding headTest headIn headWidths fieldIn sum
-returns-3 c = rw (right-length (c .before .before .before .before), right-edition (c .before .before), lt-leb (headIn (c .before .before .before .before .before .before .before .args .ev .now) 1) 1 (rw (c .before .field2 .ensures) at (c .if3 .taken)))
+returns-3 c = rw (right-length (c .before .before .before .before), right-edition (c .before .before), lt-leb (headIn (c .before .before .before .before .before .before .before .args .ev .now) .verdict) 1 (rw (c .before .field2 .ensures) at (c .if3 .taken)))
 
 field-requires-3 : tie.Need-field-requires-3
 field-requires-3 c κs = search needs
 
 returns-4 : tie.Need-returns-4
 unfolding headTest headIn headWidths fieldIn sum
-returns-4 c = rw (right-length (c .before .before .before .before .before), right-edition (c .before .before .before), le-leb (headIn (c .before .before .before .before .before .before .before .before .args .ev .now) 1) 1 (rw (c .before .before .field2 .ensures) at (c .before .if3 .left)), c .field3 .ensures)
+returns-4 c = rw (right-length (c .before .before .before .before .before), right-edition (c .before .before .before), le-leb (headIn (c .before .before .before .before .before .before .before .before .args .ev .now) .verdict) 1 (rw (c .before .before .field2 .ensures) at (c .before .if3 .left)), c .field3 .ensures)
 
 pub head-right-spec : {M : Type 1} → statement M
 head-right-spec =

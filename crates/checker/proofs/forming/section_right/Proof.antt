@@ -20,7 +20,7 @@ returns : tie.Need-returns
 unfolding sectionTest
 returns c =
     let a = c .before .before .before .before .args in
-    rw (ne-eqb (sectionIn edition1 (a .n) (a .ev .now) (a .i) 0) (a .b) (λ z. c .if1 .taken (c .before .field .ensures ∙ block-at (a .n) (a .ev .now) (a .i) (c .before .before .section-at .ensures) ∙ z)))
+    rw (ne-eqb (sectionIn edition1 (a .n) (a .ev .now) (a .i) .block) (a .b) (λ z. c .if1 .taken (c .before .field .ensures ∙ block-at (a .n) (a .ev .now) (a .i) (c .before .before .section-at .ensures) ∙ z)))
 
 add-field : tie.Need-add-field
 add-field c = omega (arith, c .before .before .section-at .ensures, section-small (c .before .before .before .before .args .n) (c .before .before .before .before .args .i) (c .before .before .before .before .pre .0) (c .before .before .before .before .pre .1))
@@ -33,7 +33,7 @@ unfolding sectionTest
 returns-2 c =
     let a = c .before .before .before .before .before .args in
     let e = c .field2 .ensures ∙ mark-at (a .n) (a .ev .now) (a .i) (c .before .before .before .section-at .ensures) in
-    rw (eq-eqb (sectionIn edition1 (a .n) (a .ev .now) (a .i) 0) (a .b) (sym (block-at (a .n) (a .ev .now) (a .i) (c .before .before .before .section-at .ensures)) ∙ sym (c .before .before .field .ensures) ∙ c .before .if1 .left), e)
+    rw (eq-eqb (sectionIn edition1 (a .n) (a .ev .now) (a .i) .block) (a .b) (sym (block-at (a .n) (a .ev .now) (a .i) (c .before .before .before .section-at .ensures)) ∙ sym (c .before .before .field .ensures) ∙ c .before .if1 .left), e)
 
 pub section-right-spec : {M : Type 1} → statement M
 section-right-spec =

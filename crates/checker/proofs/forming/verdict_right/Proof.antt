@@ -26,7 +26,7 @@ chosen-now : (c : tie.Joined1 Inv-loop μ-loop)
 chosen-now c = ⊎-elim (λ w. inl (w .0 .taken, w .1, w .2)) (λ w. inr (w .0 .left, w .1, w .2)) (c .if1 .came)
 
 -- every section was gone over, and the head's block and loss are those that were looked for
-implied : (c : tie.After-loop Inv-loop μ-loop) → Implied (c .before .before .before .before .before .args .n) (c .before .before .before .before .before .args .ev .now) (c .before .before .before .before .before .args .count) (headIn (c .before .before .before .before .before .args .ev .now) 2) (headIn (c .before .before .before .before .before .args .ev .now) 5) (c .before .loop .verdict) (c .before .loop .least) (c .before .loop .named) 0
+implied : (c : tie.After-loop Inv-loop μ-loop) → Implied (c .before .before .before .before .before .args .n) (c .before .before .before .before .before .args .ev .now) (c .before .before .before .before .before .args .count) (headIn (c .before .before .before .before .before .args .ev .now) .block) (headIn (c .before .before .before .before .before .args .ev .now) .loss) (c .before .loop .verdict) (c .before .loop .least) (c .before .loop .named) 0
 unfolding headIn headWidths fieldIn sum
 implied c =
     let e : c .before .loop .i ≡ 0 = omega (arith, c .loop-test .left) in

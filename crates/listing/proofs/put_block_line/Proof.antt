@@ -1,4 +1,4 @@
--- `put_section` puts the block, its loss and its mark. Assumes nothing.
+-- `put_block_line` puts the block, its loss and its mark. Assumes nothing.
 use mathlib.Core.Path.{_∙_}
 use Prim.Native.Nat.{_+_, _^_, _≤_, _<_}
 use native.Mathlib.Omega.{arith}
@@ -8,8 +8,8 @@ use Rattle.listing.specs.Told.{sectionLine}
 use Rattle.listing.proofs.Texts.{text-then}
 use Rattle.listing.proofs.Decimals.{item-ends, field-small}
 use borrow.Author.Needs.{needs}
-use Rattle.listing.proofs.put_section.Statement.{statement}
-use Rattle.listing.proofs.put_section.Tie as tie
+use Rattle.listing.proofs.put_block_line.Statement.{statement}
+use Rattle.listing.proofs.put_block_line.Tie as tie
 
 -- a field of the section has its place among the numbers
 small : (c : tie.After-section-at) → c .section-at .result < 2 ^ 20
@@ -78,8 +78,8 @@ returns c =
       c .before .before .before .before .before .before .before .before .before .before .before .before .before .before .before .before .before .before .before .before .field3 .ensures ∙ mark-in (a .n) (a .ev .now) (a .i) (q .section-at .ensures),
     ) at (text-then (c .before .before .before .before .before .before .before .before .before .before .before .before .before .before .before .before .before .put-item .ensures) (text-then (c .before .before .before .before .before .before .before .before .before .before .before .before .put-item2 .ensures) (text-then (c .before .before .before .before .before .before .before .put-item3 .ensures) (c .before .before .put-word .ensures))))
 
-pub put-section-spec : {M : Type 1} → statement M
-put-section-spec =
+pub put-block-line-spec : {M : Type 1} → statement M
+put-block-line-spec =
     tie.close
     (tie.spec
     section-at-requires

@@ -1,4 +1,4 @@
--- `put_choice` puts "none", or the block and its loss. Assumes nothing.
+-- `put_choice_line` puts "none", or the block and its loss. Assumes nothing.
 use mathlib.Core.Path.{sym, _∙_}
 use Prim.Native.Nat.{_+_, _≤_}
 use native.Mathlib.Omega.{arith}
@@ -11,8 +11,8 @@ use Rattle.listing.proofs.Texts.{text-then}
 use Rattle.listing.proofs.Decimals.{item-ends, field-small}
 use Rattle.listing.proofs.Lines.{choice-named}
 use borrow.Author.Needs.{needs}
-use Rattle.listing.proofs.put_choice.Statement.{statement}
-use Rattle.listing.proofs.put_choice.Tie as tie
+use Rattle.listing.proofs.put_choice_line.Statement.{statement}
+use Rattle.listing.proofs.put_choice_line.Tie as tie
 
 -- where the loss is put
 lost-at : (c : tie.After-put-item) → c .put-item .result ≤ c .before .before .before .before .before .before .before .before .before .args .at + 15
@@ -79,11 +79,11 @@ returns-2 : tie.Need-returns-2
 unfolding chooseWord lostWord lineEnd headIn headWidths fieldIn sum
 returns-2 c =
     let ev = c .before .before .before .before .before .before .before .before .before .before .before .before .before .before .before .before .before .before .before .before .before .args .ev .now in
-    let named = choice-named (headIn ev 1) (headIn ev 2) (headIn ev 5) (λ e. c .before .before .before .before .before .before .before .before .before .before .before .before .before .before .before .before .before .if1 .left (c .before .before .before .before .before .before .before .before .before .before .before .before .before .before .before .before .before .before .field .ensures ∙ e)) in
+    let named = choice-named (headIn ev .verdict) (headIn ev .block) (headIn ev .loss) (λ e. c .before .before .before .before .before .before .before .before .before .before .before .before .before .before .before .before .before .if1 .left (c .before .before .before .before .before .before .before .before .before .before .before .before .before .before .before .before .before .before .field .ensures ∙ e)) in
     rw (named, ← c .before .before .before .before .before .before .before .before .before .before .before .before .before .before .before .before .field2 .ensures, ← c .before .before .before .before .before .before .before .before .before .before .before .before .before .before .before .field3 .ensures) (text-then (c .before .before .before .before .before .before .before .before .before .before .before .before .put-item .ensures) (text-then (c .before .before .before .before .before .before .before .put-item2 .ensures) (c .before .before .put-word4 .ensures)))
 
-pub put-choice-spec : {M : Type 1} → statement M
-put-choice-spec =
+pub put-choice-line-spec : {M : Type 1} → statement M
+put-choice-line-spec =
     tie.close
     (tie.spec
     field-requires

@@ -1,11 +1,11 @@
--- `put_refused` puts the number of the refusal. Assumes nothing.
+-- `put_refused_line` puts the number of the refusal. Assumes nothing.
 use native.Mathlib.Omega.{arith}
 use Rattle.listing.specs.Listing.{refusedWord, lineEnd, refusedLine}
 use Rattle.listing.proofs.Texts.{text-then}
 use Rattle.listing.proofs.Decimals.{item-ends}
 use borrow.Author.Needs.{needs}
-use Rattle.listing.proofs.put_refused.Statement.{statement}
-use Rattle.listing.proofs.put_refused.Tie as tie
+use Rattle.listing.proofs.put_refused_line.Statement.{statement}
+use Rattle.listing.proofs.put_refused_line.Tie as tie
 
 slice-aggregate-put-item : tie.Need-slice-aggregate-put-item
 slice-aggregate-put-item c = search needs
@@ -26,8 +26,8 @@ returns : tie.Need-returns
 unfolding refusedLine refusedWord lineEnd
 returns c = text-then (c .before .before .before .before .before .before .before .put-item .ensures) (c .before .before .put-word .ensures)
 
-pub put-refused-spec : {M : Type 1} → statement M
-put-refused-spec =
+pub put-refused-line-spec : {M : Type 1} → statement M
+put-refused-line-spec =
     tie.close
     (tie.spec
     slice-aggregate-put-item

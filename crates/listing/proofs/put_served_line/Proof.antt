@@ -1,4 +1,4 @@
--- `put_served` puts the served weight. Assumes nothing.
+-- `put_served_line` puts the served weight. Assumes nothing.
 use native.Mathlib.Omega.{arith}
 use Rattle.lists.specs.Lists.{sum}
 use Rattle.picture.specs.Layout.{fieldIn}
@@ -8,8 +8,8 @@ use Rattle.listing.specs.Listing.{servedWord, lineEnd, servedLine}
 use Rattle.listing.proofs.Texts.{text-then}
 use Rattle.listing.proofs.Decimals.{item-ends, field-small}
 use borrow.Author.Needs.{needs}
-use Rattle.listing.proofs.put_served.Statement.{statement}
-use Rattle.listing.proofs.put_served.Tie as tie
+use Rattle.listing.proofs.put_served_line.Statement.{statement}
+use Rattle.listing.proofs.put_served_line.Tie as tie
 
 field-requires : tie.Need-field-requires
 field-requires c κs = search needs
@@ -33,8 +33,8 @@ returns : tie.Need-returns
 unfolding servedLine servedWord lineEnd headIn headWidths fieldIn sum
 returns c = rw (c .before .before .before .before .before .before .before .before .before .before .field .ensures) at (text-then (c .before .before .before .before .before .before .before .put-item .ensures) (c .before .before .put-word .ensures))
 
-pub put-served-spec : {M : Type 1} → statement M
-put-served-spec =
+pub put-served-line-spec : {M : Type 1} → statement M
+put-served-line-spec =
     tie.close
     (tie.spec
     field-requires
