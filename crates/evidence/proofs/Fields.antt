@@ -5,8 +5,8 @@ use mathlib.Core.Logic.{⊎-elim}
 use mathlib.Core.List.{List, [], _∷_, _++_, map}
 use Prim.Native.Nat.{ℕ, zero, suc, _+_, _*_, _^_, _≤_, _<_}
 use native.Mathlib.Omega.{arith}
-use native.Mathlib.Nat.{mul-assoc, not-suc-le-zero}
-use lib.ListN.{length, getD, length-map}
+use native.Mathlib.Nat.{mul-assoc}
+use lib.ListN.{length, getD}
 use Rattle.lists.specs.Lists.{range, sum, flat}
 use Rattle.lists.proofs.Filters.{length-filter-le}
 use Rattle.lists.proofs.Ranges.{length-range}
@@ -32,9 +32,10 @@ use Rattle.network.proofs.Candidates.{candidates-below}
 use Rattle.weigh.proofs.Blocks.{read-blocks}
 use Rattle.evidence.specs.Layout.{headWidths, nodeWidths, sectionWidths, forestBits, sectionBits, sectionAt, evidenceBytes}
 use Rattle.evidence.specs.declared.Choice.{Choice}
-use Rattle.evidence.specs.Canonical.{weighings, least, fieldsOf, headFields, nodeFields, forestFields, forestOf, sectionFields, evidenceFields, evidenceOf}
+use Rattle.evidence.specs.Canonical.{noCost, weighings, least, fieldsOf, headFields, nodeFields, forestFields, forestOf, sectionFields, evidenceFields, evidenceOf}
 use Rattle.evidence.specs.Calls.{lengthFor}
-use Rattle.evidence.proofs.Picked.{unweighed, least-picked}
+use Rattle.evidence.proofs.Least.{least-right}
+use Rattle.evidence.proofs.Weighings.{weighings-length, weighing-at}
 
 -- a node that no list has, for a place past its end
 abbrev pub noNode : Node
@@ -66,22 +67,6 @@ module _ (e : Edition) where
         span-append (fieldsOf sectionWidths (w .block ∷ w .loss ∷ w .mark ∷ [])) (forestFields e (forestOf p (heldWithout p (w .block))))
         ∙ ap (λ (n : ℕ). span (fieldsOf sectionWidths (w .block ∷ w .loss ∷ w .mark ∷ [])) + n) (forest-span (heldWithout p (w .block))) ∙ unfold span fieldsOf sectionWidths sum in refl
 
--- ---- the weighings
-
-pub length-weighings : (p : Picture) → length (weighings p) ≡ length (candidates p)
-unfolding weighings
-length-weighings p = length-map (candidates p) (weighed p)
-
-map-at : {A B : Type 0} (f : A → B) (d : B) (z : A) (l : List A) (i : ℕ) → i < length l → getD (map f l) i d ≡ f (getD l i z)
-map-at f d z [] i h = absurd (not-suc-le-zero h)
-map-at f d z (x ∷ l) zero h = refl
-map-at f d z (x ∷ l) (suc i) h = map-at f d z l i (omega arith)
-
--- the i-th is that of the i-th candidate
-pub weighing-at : (p : Picture) (i : ℕ) → i < length (candidates p) → getD (weighings p) i unweighed ≡ weighed p (getD (candidates p) i 0)
-unfolding weighings
-weighing-at p i h = map-at (weighed p) unweighed 0 (candidates p) i h
-
 -- ---- the whole
 
 module _ (e : Edition) (p : Picture) where
@@ -104,7 +89,7 @@ module _ (e : Edition) (p : Picture) where
         span-append nodes-of sections-of,
         head-span e (least (weighings p)) (length (weighings p)) (servedWeight p),
         forest-span e p (isHeld p),
-        span-flat (sectionFields e p) (sectionBits e (slotCount p)) (section-span e p) (weighings p) ∙ ap (λ (c : ℕ). c * sectionBits e (slotCount p)) (length-weighings p),
+        span-flat (sectionFields e p) (sectionBits e (slotCount p)) (section-span e p) (weighings p) ∙ ap (λ (c : ℕ). c * sectionBits e (slotCount p)) (weighings-length p),
       )
 
 -- ---- each value fits its width
@@ -144,31 +129,31 @@ module _ (bs : List ℕ) (z : pictureFault bs ≡ 0) where
   loss-small b = weights-small bs z _
 
   -- of the weighing at a place
-  block-at : (i : ℕ) → i < length (weighings p) → getD (weighings p) i unweighed .block < blocksMax
+  block-at : (i : ℕ) → i < length (weighings p) → getD (weighings p) i noCost .block < blocksMax
   block-at i h =
-      let s : i < length (candidates p) = omega (arith, length-weighings p) in
+      let s : i < length (candidates p) = omega (arith, weighings-length p) in
       rw (weighing-at p i s, weighed-block p (getD (candidates p) i 0)) (omega (arith, candidates-below p i s, blocks-small))
 
-  loss-at : (i : ℕ) → i < length (weighings p) → getD (weighings p) i unweighed .loss < 2 ^ 24
-  loss-at i h = rw (weighing-at p i (omega (arith, length-weighings p))) (loss-small _)
+  loss-at : (i : ℕ) → i < length (weighings p) → getD (weighings p) i noCost .loss < 2 ^ 24
+  loss-at i h = rw (weighing-at p i (omega (arith, weighings-length p))) (loss-small _)
 
-  mark-at : (i : ℕ) → i < length (weighings p) → getD (weighings p) i unweighed .mark ≤ 1
-  mark-at i h = rw (weighing-at p i (omega (arith, length-weighings p))) (mark-le p _)
+  mark-at : (i : ℕ) → i < length (weighings p) → getD (weighings p) i noCost .mark ≤ 1
+  mark-at i h = rw (weighing-at p i (omega (arith, weighings-length p))) (mark-le p _)
 
   -- the choice is one of the weighings, or 0, 0 and 0
   pub choice-fits : (least (weighings (pictureOf bs)) .verdict ≤ 1) × (least (weighings (pictureOf bs)) .block < blocksMax) × (least (weighings (pictureOf bs)) .loss < 2 ^ 24)
   choice-fits = ⊎-elim
       (λ r. (omega (arith, r .verdict), omega (arith, r .block, block-at (r .at) (r .within)), rw (r .loss) (loss-at (r .at) (r .within))))
       (λ r. (omega (arith, r .verdict), omega (arith, r .block), omega (arith, r .loss)))
-      (least-picked (weighings p))
+      (least-right (weighings p))
 
   head-fits : Fit (head-of edition1 p)
   unfolding headFields headWidths fieldsOf Fit
   head-fits =
       let c = choice-fits in
-      (omega arith, (omega arith, (omega arith, (omega (arith, length-weighings p, candidates-few), (served-small, (c .2, tt))))))
+      (omega arith, (omega arith, (omega arith, (omega (arith, weighings-length p, candidates-few), (served-small, (c .2, tt))))))
 
-  section-fits : (i : ℕ) → i < length (weighings p) → Fit (sectionFields edition1 p (getD (weighings p) i unweighed))
+  section-fits : (i : ℕ) → i < length (weighings p) → Fit (sectionFields edition1 p (getD (weighings p) i noCost))
   unfolding sectionFields sectionWidths fieldsOf Fit
   section-fits i h =
       (omega (arith, block-at i h), (loss-at i h, (omega (arith, mark-at i h), forest-fits edition1 p (omega (arith, slots-small)) _)))
@@ -178,7 +163,7 @@ module _ (bs : List ℕ) (z : pictureFault bs ≡ 0) where
   evidence-fits =
       fit-append (head-of edition1 p) (nodes-of edition1 p ++ sections-of edition1 p) head-fits
       (fit-append (nodes-of edition1 p) (sections-of edition1 p) (forest-fits edition1 p (omega (arith, slots-small)) (isHeld p))
-      (fit-flat unweighed (sectionFields edition1 p) (weighings p) section-fits))
+      (fit-flat noCost (sectionFields edition1 p) (weighings p) section-fits))
 
 -- ---- how long the evidence is
 

@@ -21,11 +21,11 @@ use Rattle.network.specs.Words.{slotCount, isHeld, heldWithout}
 use Rattle.network.specs.declared.Cost.{Cost}
 use Rattle.network.specs.Tests.{weighed, servedWeight, candidates}
 use Rattle.network.proofs.Weights.{weighed-block}
-use Rattle.evidence.specs.Layout.{headWidths, nodeWidths, sectionWidths, sectionBits, sectionAt}
-use Rattle.evidence.specs.Canonical.{weighings, least, fieldsOf, headFields, nodeFields, forestFields, forestOf, sectionFields, evidenceFields, evidenceOf}
+use Rattle.evidence.specs.Layout.{headWidths, nodeWidths, sectionWidths, sectionBits, sectionAt, forestAt}
+use Rattle.evidence.specs.Canonical.{noCost, weighings, least, fieldsOf, headFields, nodeFields, forestFields, forestOf, sectionFields, evidenceFields, evidenceOf}
 use Rattle.evidence.specs.Checks.{headIn, sectionIn, nodeAt, forestIn, firstForest, sectionForest}
-use Rattle.evidence.proofs.Picked.{unweighed}
-use Rattle.evidence.proofs.Fields.{noNode, head-of, nodes-of, sections-of, node-span, head-span, length-forest-of, forest-span, section-span, length-weighings, weighing-at, evidence-fits}
+use Rattle.evidence.proofs.Weighings.{weighings-length, weighing-at}
+use Rattle.evidence.proofs.Fields.{noNode, head-of, nodes-of, sections-of, node-span, head-span, length-forest-of, forest-span, section-span, evidence-fits}
 
 -- ---- values with their widths
 
@@ -87,7 +87,7 @@ module _ (e : Edition) (p : Picture) (ev : List ℕ) where
         forest = b .0;
         sections = λ i s.
             rw (← weighing-at p i s, ← sections-place i)
-            (holds-flat unweighed (sectionFields e p) (sectionBits e (slotCount p)) (section-span e p) ev (sum headWidths + span nodes) (weighings p) (b .1) i (omega (arith, length-weighings p)));
+            (holds-flat noCost (sectionFields e p) (sectionBits e (slotCount p)) (section-span e p) ev (sum headWidths + span nodes) (weighings p) (b .1) i (omega (arith, weighings-length p)));
       }
 
 -- ---- what is read back
@@ -107,8 +107,8 @@ pub record Reads (e : Edition) (p : Picture) (ev : List ℕ) : Type 0 where
 
 module _ (e : Edition) (p : Picture) (ev : List ℕ) (parts : Parts e p ev) where
   head-read : (k : ℕ) → k < 6
-      → headIn ev k ≡ getD (e .number ∷ least (weighings p) .verdict ∷ least (weighings p) .block ∷ length (weighings p) ∷ servedWeight p ∷ least (weighings p) .loss ∷ []) k 0
-  unfolding headIn headFields headWidths
+      → fieldIn ev headWidths 0 k ≡ getD (e .number ∷ least (weighings p) .verdict ∷ least (weighings p) .block ∷ length (weighings p) ∷ servedWeight p ∷ least (weighings p) .loss ∷ []) k 0
+  unfolding headFields headWidths
   head-read k s = fields-read ev headWidths _ 0 (parts .head) k s s
 
   module _ (i : ℕ) (s : i < length (candidates p)) where
@@ -120,24 +120,24 @@ module _ (e : Edition) (p : Picture) (ev : List ℕ) (parts : Parts e p ev) wher
     unfolding sectionFields sectionWidths fieldsOf span sum
     start = holds-append ev (sectionAt e (slotCount p) i) (fieldsOf sectionWidths (w .block ∷ w .loss ∷ w .mark ∷ [])) (forestFields e (forestOf p (heldWithout p (w .block)))) (parts .sections i s)
 
-    section-read : (k : ℕ) → k < 3 → sectionIn e (slotCount p) ev i k ≡ getD (w .block ∷ w .loss ∷ w .mark ∷ []) k 0
-    unfolding sectionIn sectionWidths
+    section-read : (k : ℕ) → k < 3 → fieldIn ev sectionWidths (sectionAt e (slotCount p) i) k ≡ getD (w .block ∷ w .loss ∷ w .mark ∷ []) k 0
+    unfolding sectionWidths
     section-read k m = fields-read ev sectionWidths _ (sectionAt e (slotCount p) i) (start .0) k m m
 
     section-forest : sectionForest e (slotCount p) ev i ≡ forestOf p (heldWithout p (getD (candidates p) i 0))
-    unfolding sectionForest
+    unfolding sectionForest forestAt
     section-forest =
         forest-read e (slotCount p) ev (sectionAt e (slotCount p) i + sum sectionWidths) (forestOf p (heldWithout p (w .block))) (length-forest-of p (heldWithout p (w .block))) (start .1)
         ∙ rw (weighed-block p (getD (candidates p) i 0))
 
   pub parts-reads : Reads e p ev
-  unfolding firstForest
+  unfolding headIn sectionIn firstForest forestAt
   parts-reads =
       record {
         edition = head-read 0 (lit< tt);
         verdict = head-read 1 (lit< tt);
         block = head-read 2 (lit< tt);
-        count = head-read 3 (lit< tt) ∙ length-weighings p;
+        count = head-read 3 (lit< tt) ∙ weighings-length p;
         served = head-read 4 (lit< tt);
         loss = head-read 5 (lit< tt);
         forest = forest-read e (slotCount p) ev (sum headWidths) (forestOf p (isHeld p)) (length-forest-of p (isHeld p)) (parts .forest);

@@ -63,7 +63,7 @@ module _ {p : Picture} (n : Named p) (e : Edition) (ev : List ℕ) (marks : (i :
   every-judged : Judged (sectionRules e p ev 0 (length (candidates p))) (first (map (sectionFault e p ev (weighings p)) (range 0 (length (weighings p)))))
   every-judged = rw weighings-length (sections-judged 0 (length (candidates p)) (omega arith))
 
-sections-numbered : (e : Edition) (p : Picture) (ev : List ℕ) (i k : ℕ) → Numbered (sectionRules e p ev i k)
+pub sections-numbered : (e : Edition) (p : Picture) (ev : List ℕ) (i k : ℕ) → Numbered (sectionRules e p ev i k)
 unfolding sectionRules
 sections-numbered e p ev i zero = tt
 sections-numbered e p ev i (suc k) = (λ z. absurd (omega arith), (λ z. absurd (omega arith), sections-numbered e p ev (suc i) k))

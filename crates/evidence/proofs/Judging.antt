@@ -9,26 +9,24 @@ use native.Mathlib.Decide.{ℕ-discrete}
 use borrow.Author.Tests.{eq-eqb, ne-eqb, le-leb}
 use lib.Dec.{T, eqb, leb, eqb→eq, leb→le}
 use lib.ListN.{length, getD}
-use Rattle.lists.specs.Lists.{range, on, first, all, any}
+use Rattle.lists.specs.Lists.{range, all, any}
 use Rattle.lists.proofs.Tests.{and-T, T-and, eq-T, any-at, at-any}
 use Rattle.lists.proofs.Sums.{total-one}
-use Rattle.graph.specs.Kept.{ForestKept}
 use Rattle.picture.specs.Layout.{Edition}
 use Rattle.picture.specs.Picture.{Picture}
-use Rattle.network.specs.Words.{slotCount, blockCount, isHeld, heldWithout, joins, ServedWeight, Candidate}
+use Rattle.network.specs.Words.{slotCount, blockCount, isHeld, heldWithout, ServedWeight, Candidate}
 use Rattle.network.specs.declared.Cost.{Cost}
 use Rattle.network.specs.Tests.{weighed, servedWeight, candidates}
 use Rattle.network.proofs.Named.{Named}
-use Rattle.network.proofs.Weights.{served-weight, loss-weight, mark-protected, protected-mark, mark-le, weighed-block}
+use Rattle.network.proofs.Weights.{served-weight, loss-weight, mark-protected, protected-mark, mark-le}
 use Rattle.evidence.specs.Layout.{evidenceBytes}
 use Rattle.evidence.specs.declared.Choice.{Choice}
-use Rattle.evidence.specs.Canonical.{least, weighings}
-use Rattle.evidence.specs.Checks.{headIn, sectionIn, sectionForest, forestRight, formRight, sectionFault, verdictRight}
-use Rattle.evidence.specs.Rules.{Form, Numbers, Section, Verdict, chosen, none}
+use Rattle.evidence.specs.Canonical.{noCost, least, weighings}
+use Rattle.evidence.specs.Checks.{headIn, sectionIn, sectionForest, forestRight, formRight, verdictRight}
+use Rattle.evidence.specs.Rules.{Form, Numbers, Verdict, chosen, none}
 use Rattle.lists.proofs.Every.{all-range, range-all}
-use Rattle.evidence.proofs.Forests.{right-kept, kept-right}
-use Rattle.evidence.proofs.Weighings.{at-place}
-use Rattle.evidence.proofs.Choosing.{Chosen, Nothing, least-right, least-none, none-least, least-loss, least-best, best-least, marked-cut, cut-marked}
+use Rattle.evidence.proofs.Least.{Chosen, Nothing, least-right, least-none, none-least}
+use Rattle.evidence.proofs.Choosing.{least-loss, least-best, best-least, marked-cut, cut-marked}
 
 -- ---- 13: the form
 
@@ -75,25 +73,6 @@ module _ {p : Picture} (n : Named p) (w : ℕ) where
 
 -- ---- 14 and 15 of a section
 
--- the tests of section i, for the weighing w
-pub record SectionRight (e : Edition) (p : Picture) (ev : List ℕ) (i : ℕ) (w : Cost) : Type 0 where
-  pub forest : ForestKept (joins (p .links)) (heldWithout p (w .block)) (slotCount p) (sectionForest e (slotCount p) ev i)
-  pub loss : sectionIn e (slotCount p) ev i .loss ≡ w .loss
-  pub mark : sectionIn e (slotCount p) ev i .mark ≡ w .mark
-
--- two tests in their order, of which each has to pass
-two-right : (a b : Bool) → first (on (not a) 14 ∷ on (not b) 15 ∷ []) ≡ 0 → T a × T b
-unfolding first on
-two-right true true e = (tt, tt)
-two-right true false e = absurd (omega arith)
-two-right false b e = absurd (omega arith)
-
-right-two : (a b : Bool) → T a → T b → first (on (not a) 14 ∷ on (not b) 15 ∷ []) ≡ 0
-unfolding first on
-right-two true true s t = refl
-right-two true false s t = absurd t
-right-two false b s t = absurd s
-
 module _ (e : Edition) (p : Picture) (ev : List ℕ) (i : ℕ) (w : Cost) where
   unfoldable pub forestTest : Bool
   forestTest = forestRight p (heldWithout p (w .block)) (sectionForest e (slotCount p) ev i)
@@ -110,19 +89,6 @@ module _ (e : Edition) (p : Picture) (ev : List ℕ) (i : ℕ) (w : Cost) where
   pub numbers-test : sectionIn e (slotCount p) ev i .loss ≡ w .loss → sectionIn e (slotCount p) ev i .mark ≡ w .mark → T numbersTest
   unfolding numbersTest
   numbers-test l m = rw (eq-eqb _ _ l, eq-eqb _ _ m) tt
-
-module _ (e : Edition) (p : Picture) (ev : List ℕ) (ws : List Cost) (i : ℕ) where
-  pub fault-section : sectionFault e p ev ws i ≡ 0 → SectionRight e p ev i (at-place ws i)
-  unfolding sectionFault forestTest numbersTest
-  fault-section z =
-      let t = two-right (forestTest e p ev i (at-place ws i)) (numbersTest e p ev i (at-place ws i)) z in
-      let u = test-numbers e p ev i (at-place ws i) (t .1) in
-      record { forest = right-kept p _ _ (t .0); loss = u .0; mark = u .1 }
-
-  pub section-fault : SectionRight e p ev i (at-place ws i) → sectionFault e p ev ws i ≡ 0
-  unfolding sectionFault forestTest numbersTest
-  section-fault r =
-      right-two (forestTest e p ev i (at-place ws i)) (numbersTest e p ev i (at-place ws i)) (kept-right p _ _ (r .forest)) (numbers-test e p ev i (at-place ws i) (r .loss) (r .mark))
 
 -- ---- 15 of the section of block b, by chains
 
@@ -141,14 +107,6 @@ module _ {p : Picture} (n : Named p) (e : Edition) (ev : List ℕ) (i b : ℕ) w
         (λ o. s .unmarked (mark-protected n b o) ∙ sym o)
         (λ x. by-cases (ℕ-discrete (sectionIn e (slotCount p) ev i .mark) 1) (λ o. o ∙ sym (protected-mark n (s .marked o))) (λ y. omega (arith, mark-le p b))),
   )
-
-  pub right-section : SectionRight e p ev i (weighed p b) → Section e p ev i b
-  right-section r = record { forest = rw weighed-block at (r .forest); numbers = right-numbers (r .loss) (r .mark) }
-
-  pub section-right : sectionIn e (slotCount p) ev i .mark ≤ 1 → Section e p ev i b → SectionRight e p ev i (weighed p b)
-  section-right h s =
-      let q = numbers-right h (s .numbers) in
-      record { forest = rw weighed-block (s .forest); loss = q .0; mark = q .1 }
 
 -- ---- 16: the verdict
 
@@ -177,8 +135,8 @@ module _ {p : Picture} (n : Named p) (below : (b : ℕ) → Candidate p b → b 
       some : v ≡ c .verdict → l ≡ c .loss → T (cond (eqb (c .verdict) 0) (eqb b 0) (any (isNamed b (c .loss)) ws)) → Chosen ws c → Verdict p v b l
       some ev el u k =
           let deep : c .verdict ≢ 0 = λ z. absurd (omega (arith, k .verdict)) in
-          let r = any-at (at-place [] 0) (isNamed b (c .loss)) ws (subst (λ (x : Bool). T (cond x (eqb b 0) (any (isNamed b (c .loss)) ws))) (ne-eqb (c .verdict) 0 deep) u) in
-          let w = at-place ws (r .at) in
+          let r = any-at (getD [] 0 noCost) (isNamed b (c .loss)) ws (subst (λ (x : Bool). T (cond x (eqb b 0) (any (isNamed b (c .loss)) ws))) (ne-eqb (c .verdict) 0 deep) u) in
+          let w = getD ws (r .at) noCost in
           let s1 = and-T (eqb (w .block) b) (eqb (w .mark) 0 && eqb (w .loss) (c .loss)) (r .passes) in
           let s2 = and-T (eqb (w .mark) 0) (eqb (w .loss) (c .loss)) (s1 .1) in
           rw (ev ∙ k .verdict)
@@ -201,12 +159,12 @@ module _ {p : Picture} (n : Named p) (below : (b : ℕ) → Candidate p b → b 
   verdict-test v b l (chosen t) =
       let k = best-least n below t in
       let q = least-loss k in
-      let w = at-place ws (k .at) in
+      let w = getD ws (k .at) noCost in
       let deep : c .verdict ≢ 0 = λ z. absurd (omega arith) in
       T-and (eqb 1 (c .verdict)) _ (eq-T 1 (c .verdict) (sym (q .0)))
       (T-and (eqb l (c .loss)) _ (eq-T l (c .loss) (sym (q .1)))
       (rw (ne-eqb (c .verdict) 0 deep)
-      (at-any (at-place [] 0) (isNamed b (c .loss)) ws (k .at) (k .within)
+      (at-any (getD [] 0 noCost) (isNamed b (c .loss)) ws (k .at) (k .within)
       (T-and (eqb (w .block) b) _ (eq-T (w .block) b (k .block)) (T-and (eqb (w .mark) 0) _ (eq-T (w .mark) 0 (k .clear)) (eq-T (w .loss) (c .loss) (k .loss ∙ sym (q .1))))))))
   verdict-test v b l (none k) =
       let z = none-least ws (cut-marked n below k) in

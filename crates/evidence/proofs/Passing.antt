@@ -1,116 +1,122 @@
--- Evidence passes the check exactly where it keeps the rules. Assumes nothing.
-use mathlib.Core.Path.{_≡_, refl, sym, _∙_, subst}
-use mathlib.Core.Bool.{Bool, true, false, not}
-use mathlib.Core.List.{List, [], _∷_, map}
-use Prim.Native.Nat.{ℕ, suc, _≤_, _<_}
+-- Evidence passes the check exactly where it keeps the rules, and the rules as a record. Assumes nothing.
+use mathlib.Core.Path.{_≡_, refl, subst}
+use mathlib.Core.List.{List, [], _∷_, _++_}
+use Prim.Native.Nat.{ℕ, zero, suc, _+_, _≤_, _<_}
 use native.Mathlib.Omega.{arith}
-use native.Mathlib.Nat.{zero-add}
-use lib.Dec.{T, eqb, eqb→eq}
+use native.Mathlib.Decide.{ℕ-discrete}
 use lib.ListN.{length, getD}
-use Rattle.lists.specs.Lists.{range, on, first}
-use Rattle.lists.proofs.Tests.{eq-T}
-use Rattle.lists.proofs.Ranges.{length-range}
-use Rattle.lists.proofs.Picks.{getD-range}
-use Rattle.lists.proofs.Faults.{first-zero, first-skip, first-map-none, scan-ended}
+use Rattle.lists.specs.Rules.{Rule, AllHold, none, more}
+use Rattle.lists.proofs.Faults.{Numbered, judged-all, all-judged}
+use Rattle.graph.specs.Kept.{ForestKept}
 use Rattle.picture.specs.Layout.{Edition, editionOf}
 use Rattle.picture.specs.Picture.{Picture, pictureOf}
 use Rattle.picture.specs.Faults.{pictureFault}
-use Rattle.network.specs.Words.{slotCount, isHeld}
-use Rattle.network.specs.Tests.{servedWeight, candidates}
-use Rattle.network.proofs.Named.{Named, accepted-named}
-use Rattle.evidence.specs.Canonical.{weighings}
-use Rattle.evidence.specs.Checks.{headIn, sectionIn, firstForest, forestRight, formRight, sectionFault, verdictRight, checkFault}
-use Rattle.evidence.specs.Rules.{Section, Passes}
-use Rattle.evidence.proofs.Forests.{right-kept, kept-right}
-use Rattle.evidence.proofs.Weighings.{weighings-length, weighing-at, candidate-below}
-use Rattle.evidence.proofs.Judging.{SectionRight, right-form, form-right, right-served, served-right, fault-section, section-fault, right-section, section-right, right-verdict, verdict-right}
+use Rattle.picture.specs.Rules.{rules}
+use Rattle.picture.proofs.Accepted.{judged, numbered}
+use Rattle.network.specs.Words.{slotCount, isHeld, joins, ServedWeight}
+use Rattle.network.specs.Tests.{candidates}
+use Rattle.evidence.specs.Checks.{headIn, firstForest, checkFault}
+use Rattle.evidence.specs.Rules.{Form, SectionForest, Numbers, Verdict, sectionRules, evidenceRulesWith, checkRules}
+use Rattle.evidence.proofs.Judged.{check-judged, sections-numbered}
 
--- ---- a test that a rule holds, and its number
+-- ---- the check passes exactly where every rule holds
 
-on-right : (b : Bool) (k : ℕ) → on (not b) (suc k) ≡ 0 → T b
-unfolding on
-on-right true k e = tt
-on-right false k e = absurd (omega arith)
-
-right-on : (b : Bool) (k : ℕ) → T b → on (not b) k ≡ 0
-unfolding on
-right-on true k t = refl
-right-on false k t = absurd t
-
--- numbers of a range at each of which f tells a fault or 0
-range-none : (f : ℕ → ℕ) (k : ℕ) → first (map f (range 0 k)) ≡ 0 → (i : ℕ) → i < k → f i ≡ 0
-range-none f k z i h =
-    let e : getD (range 0 k) i 0 ≡ i = getD-range 0 0 k i h ∙ zero-add i in
-    rw e at (first-map-none f 0 (range 0 k) z i (rw length-range h))
-
-none-range : (f : ℕ → ℕ) (k : ℕ) → ((i : ℕ) → i < k → f i ≡ 0) → first (map f (range 0 k)) ≡ 0
-none-range f k c = sym (scan-ended f 0 (range 0 k) k (record { before = λ i h. rw (getD-range 0 0 k i h ∙ zero-add i) (c i h) }) (omega (arith, length-range 0 k)))
-
--- ---- every section
-
-module _ {p : Picture} (n : Named p) (e : Edition) (ev : List ℕ) where
-  pub sections-kept : first (map (sectionFault e p ev (weighings p)) (range 0 (length (weighings p)))) ≡ 0 → (i : ℕ) → i < length (candidates p) → Section e p ev i (getD (candidates p) i 0)
-  sections-kept z i h =
-      right-section n e ev i (getD (candidates p) i 0)
-      (subst (SectionRight e p ev i) (weighing-at p i h) (fault-section e p ev (weighings p) i (range-none _ _ z i (omega (arith, weighings-length p)))))
-
-  pub kept-sections : ((i : ℕ) → i < length (candidates p) → sectionIn e (slotCount p) ev i .mark ≤ 1) → ((i : ℕ) → i < length (candidates p) → Section e p ev i (getD (candidates p) i 0))
-      → first (map (sectionFault e p ev (weighings p)) (range 0 (length (weighings p)))) ≡ 0
-  kept-sections m s =
-      none-range _ _
-      (λ i h.
-      let l : i < length (candidates p) = omega (arith, weighings-length p) in
-      section-fault e p ev (weighings p) i (subst (SectionRight e p ev i) (sym (weighing-at p i l)) (section-right n e ev i (getD (candidates p) i 0) (m i l) (s i l))))
-
--- ---- the check
+numbered-both : (rs ss : List Rule) → Numbered rs → Numbered ss → Numbered (rs ++ ss)
+numbered-both [] ss a b = b
+numbered-both (r ∷ rs) ss a b = (a .0, numbered-both rs ss (a .1) b)
 
 module _ (bs ev : List ℕ) where
-  e : Edition
-  e = editionOf bs
+  check-numbered : Numbered (checkRules bs ev)
+  unfolding checkRules evidenceRulesWith
+  check-numbered =
+      let p = pictureOf bs in
+      numbered-both (rules bs) _ (numbered bs)
+      (λ z. absurd (omega arith), (λ z. absurd (omega arith), (λ z. absurd (omega arith), numbered-both (sectionRules (editionOf bs) p ev 0 (length (candidates p))) _ (sections-numbered (editionOf bs) p ev 0 (length (candidates p))) (λ z. absurd (omega arith), tt))))
 
-  p : Picture
-  p = pictureOf bs
+  pub check-holds : checkFault bs ev ≡ 0 → AllHold (checkRules bs ev)
+  check-holds z = judged-all (check-judged bs ev) check-numbered z
 
-  forms : Bool
-  forms = formRight e p ev
+  pub holds-check : AllHold (checkRules bs ev) → checkFault bs ev ≡ 0
+  holds-check a = all-judged (check-judged bs ev) a
 
-  forests : Bool
-  forests = forestRight p (isHeld p) (firstForest e (slotCount p) ev)
+-- ---- the rules as a record
 
-  weights : Bool
-  weights = eqb (headIn ev .served) (servedWeight p)
+-- 14 and 15 of the section of block b
+pub record Section (e : Edition) (p : Picture) (ev : List ℕ) (i b : ℕ) : Type 0 where
+  pub forest : SectionForest e p ev i b
+  pub numbers : Numbers e p ev i b
 
-  sections : ℕ
-  sections = first (map (sectionFault e p ev (weighings p)) (range 0 (length (weighings p))))
+-- evidence that passes for a picture
+pub record Passes (bs ev : List ℕ) : Type 0 where
+  pub accepted : pictureFault bs ≡ 0
+  pub form : Form (editionOf bs) (pictureOf bs) ev
+  pub forest : ForestKept (joins (pictureOf bs .links)) (isHeld (pictureOf bs)) (slotCount (pictureOf bs)) (firstForest (editionOf bs) (slotCount (pictureOf bs)) ev)
+  pub served : ServedWeight (pictureOf bs) (isHeld (pictureOf bs)) (headIn ev .served)
+  pub sections : (i : ℕ) → i < length (candidates (pictureOf bs)) → Section (editionOf bs) (pictureOf bs) ev i (getD (candidates (pictureOf bs)) i 0)
+  pub verdict : Verdict (pictureOf bs) (headIn ev .verdict) (headIn ev .block) (headIn ev .loss)
 
-  verdicts : Bool
-  verdicts = verdictRight ev (weighings p)
+-- rules of two lists
+hold-left : (rs ss : List Rule) → AllHold (rs ++ ss) → AllHold rs
+hold-left [] ss a = none
+hold-left (r ∷ rs) ss (more h a) = more h (hold-left rs ss a)
 
-  faults : List ℕ
-  faults = pictureFault bs ∷ on (not forms) 13 ∷ on (not forests) 14 ∷ on (not weights) 15 ∷ sections ∷ on (not verdicts) 16 ∷ []
+hold-right : (rs ss : List Rule) → AllHold (rs ++ ss) → AllHold ss
+hold-right [] ss a = a
+hold-right (r ∷ rs) ss (more h a) = hold-right rs ss a
 
-  pub check-passes : checkFault bs ev ≡ 0 → Passes bs ev
-  unfolding checkFault e p forms forests weights sections verdicts faults
-  check-passes z =
-      let f = first-zero faults z in
-      let n = accepted-named bs (f 0) in
+hold-both : {rs ss : List Rule} → AllHold rs → AllHold ss → AllHold (rs ++ ss)
+hold-both none b = b
+hold-both (more h a) b = more h (hold-both a b)
+
+module _ (e : Edition) (p : Picture) (ev : List ℕ) where
+  holds-section : (i k : ℕ) → AllHold (sectionRules e p ev i k) → (j : ℕ) → i ≤ j → j < i + k → Section e p ev j (getD (candidates p) j 0)
+  unfolding sectionRules
+  holds-section i zero a j l h = absurd (omega arith)
+  holds-section i (suc k) (more f (more n a)) j l h = go (ℕ-discrete i j) (λ s. holds-section (suc i) k a j s (omega arith))
+    where
+      go : Dec (i ≡ j) → (suc i ≤ j → Section e p ev j (getD (candidates p) j 0)) → Section e p ev j (getD (candidates p) j 0)
+      go (yes q) _ = subst (λ (x : ℕ). Section e p ev x (getD (candidates p) x 0)) q (record { forest = f; numbers = n })
+      go (no q) later = later (omega arith)
+
+  section-holds : (i k : ℕ) → ((j : ℕ) → i ≤ j → j < i + k → Section e p ev j (getD (candidates p) j 0)) → AllHold (sectionRules e p ev i k)
+  unfolding sectionRules
+  section-holds i zero s = none
+  section-holds i (suc k) s =
+      let here = s i (omega arith) (omega arith) in
+      more (here .forest) (more (here .numbers) (section-holds (suc i) k (λ j l h. s j (omega arith) (omega arith))))
+
+last : {r : Rule} → AllHold (r ∷ []) → r .holds
+last (more v none) = v
+
+module _ (bs ev : List ℕ) where
+  sections : List Rule
+  sections = sectionRules (editionOf bs) (pictureOf bs) ev 0 (length (candidates (pictureOf bs)))
+
+  evidence-passes : pictureFault bs ≡ 0 → AllHold (evidenceRulesWith (editionOf bs) (pictureOf bs) ev) → Passes bs ev
+  unfolding evidenceRulesWith sections
+  evidence-passes z (more f (more t (more w r))) =
       record {
-        accepted = f 0;
-        form = right-form e p ev (on-right forms 12 (f 1));
-        forest = right-kept p _ _ (on-right forests 13 (f 2));
-        served = right-served n _ (eqb→eq _ _ (on-right weights 14 (f 3)));
-        sections = sections-kept n e ev (f 4);
-        verdict = right-verdict n (candidate-below bs (f 0)) ev (on-right verdicts 15 (f 5));
+        accepted = z;
+        form = f;
+        forest = t;
+        served = w;
+        sections = λ i h. holds-section (editionOf bs) (pictureOf bs) ev 0 (length (candidates (pictureOf bs))) (hold-left sections _ r) i (omega arith) (omega arith);
+        verdict = last (hold-right sections _ r);
       }
 
+  holds-passes : AllHold (checkRules bs ev) → Passes bs ev
+  unfolding checkRules
+  holds-passes a = evidence-passes (all-judged (judged bs) (hold-left (rules bs) _ a)) (hold-right (rules bs) _ a)
+
+  passes-holds : Passes bs ev → AllHold (checkRules bs ev)
+  unfolding checkRules evidenceRulesWith
+  passes-holds k =
+      hold-both (judged-all (judged bs) (numbered bs) (k .accepted))
+      (more (k .form) (more (k .forest) (more (k .served)
+      (hold-both (section-holds (editionOf bs) (pictureOf bs) ev 0 (length (candidates (pictureOf bs))) (λ j _ h. k .sections j (omega arith))) (more (k .verdict) none)))))
+
+  pub check-passes : checkFault bs ev ≡ 0 → Passes bs ev
+  check-passes z = holds-passes (check-holds bs ev z)
+
   pub passes-check : Passes bs ev → checkFault bs ev ≡ 0
-  unfolding checkFault e p forms forests weights sections verdicts faults
-  passes-check k =
-      let n = accepted-named bs (k .accepted) in
-      first-skip (pictureFault bs) _ (k .accepted)
-      ∙ first-skip (on (not forms) 13) _ (right-on forms 13 (form-right e p ev (k .form)))
-      ∙ first-skip (on (not forests) 14) _ (right-on forests 14 (kept-right p _ _ (k .forest)))
-      ∙ first-skip (on (not weights) 15) _ (right-on weights 15 (eq-T _ _ (served-right n _ (k .served))))
-      ∙ first-skip sections _ (kept-sections n e ev (k .form .marks) (k .sections))
-      ∙ first-skip (on (not verdicts) 16) [] (right-on verdicts 16 (verdict-right n (candidate-below bs (k .accepted)) ev (k .verdict)))
-      ∙ (unfold first in refl)
+  passes-check k = holds-check bs ev (passes-holds k)

@@ -1,15 +1,20 @@
 -- Where a section stands, and its fields. Assumes nothing.
 use mathlib.Core.Path.{_≡_, refl, ap, _∙_}
 use mathlib.Core.List.{List}
-use Prim.Native.Nat.{ℕ, _+_, _*_, _^_, _≤_, _<_}
+use Prim.Native.Nat.{ℕ, zero, suc, _+_, _*_, _^_, _≤_, _<_}
 use native.Mathlib.Omega.{arith}
-use native.Mathlib.Nat.{mul-le-mul-right}
+use native.Mathlib.Nat.{mul-le-mul-right, suc-mul}
 use Rattle.bits.specs.Bits.{fieldAt}
 use Rattle.lists.specs.Lists.{sum}
 use Rattle.rows.specs.Rows.{slotsMax}
 use Rattle.picture.specs.Layout.{edition1, fieldIn}
-use Rattle.evidence.specs.Layout.{headWidths, nodeWidths, sectionWidths, forestBits, sectionBits, sectionAt}
+use Rattle.evidence.specs.Layout.{headWidths, nodeWidths, sectionWidths, forestBits, sectionBits, sectionAt, forestAt}
 use Rattle.evidence.specs.Checks.{sectionIn}
+
+-- the numbers of edition 1, which the laws of this crate alone use
+pub section-bits : (n : ℕ) → sectionBits edition1 n ≡ 40 + n * 16
+unfolding sectionBits sectionWidths forestBits nodeWidths sum
+section-bits n = refl
 
 pub section-at : (n i : ℕ) → sectionAt edition1 n i ≡ 72 + n * 16 + i * (40 + n * 16)
 unfolding sectionAt headWidths sectionBits sectionWidths forestBits nodeWidths sum
@@ -19,6 +24,18 @@ pub section-small : (n i : ℕ) → n ≤ slotsMax → i ≤ 255 → sectionAt e
 section-small n i a b =
     let m : i * (40 + n * 16) ≤ 255 * (40 + n * 16) = mul-le-mul-right (40 + n * 16) b in
     omega (arith, section-at n i)
+
+-- a forest starts where the head ends, and so many sections on
+pub forest-at : (n k : ℕ) → forestAt edition1 n k ≡ sum headWidths + k * sectionBits edition1 n
+unfolding forestAt sectionAt sectionBits headWidths sectionWidths forestBits nodeWidths sum
+forest-at n zero = omega arith
+forest-at n (suc i) = omega (arith, suc-mul i (40 + n * 16))
+
+pub forest-small : (n k : ℕ) → n ≤ slotsMax → k ≤ 255 → forestAt edition1 n k < 2 ^ 20
+unfolding headWidths sum
+forest-small n k a b =
+    let m : k * (40 + n * 16) ≤ 255 * (40 + n * 16) = mul-le-mul-right (40 + n * 16) b in
+    omega (arith, forest-at n k, ap (λ (x : ℕ). k * x) (section-bits n))
 
 -- the fields of section i, from where it starts
 module _ (n : ℕ) (ev : List ℕ) (i : ℕ) {at : ℕ} (e : at ≡ sectionAt edition1 n i) where

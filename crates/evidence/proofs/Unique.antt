@@ -5,7 +5,8 @@ use Prim.Native.Nat.{ℕ}
 use native.Mathlib.Omega.{arith}
 use Rattle.picture.specs.Picture.{Picture}
 use Rattle.evidence.specs.Checks.{headIn}
-use Rattle.evidence.specs.Rules.{Verdict, chosen, none, Passes}
+use Rattle.evidence.specs.Rules.{Verdict, chosen, none}
+use Rattle.evidence.proofs.Passing.{Passes}
 
 -- the block may be another one of the least
 pub verdict-one : {p : Picture} {v b l v′ b′ l′ : ℕ} → Verdict p v b l → Verdict p v′ b′ l′ → (v ≡ v′) × (l ≡ l′)

@@ -13,18 +13,13 @@ use Rattle.picture.specs.Picture.{Picture, pictureOf, pictureWith}
 use Rattle.picture.specs.Faults.{pictureFault}
 use Rattle.picture.proofs.Accepted.{accepted-kept}
 use Rattle.network.specs.Words.{slotCount, blockCount, inBlock, Candidate, CutsProtected, Admissible}
-use Rattle.network.specs.declared.Cost.{Cost}
 use Rattle.network.specs.Tests.{weighed, candidates}
 use Rattle.network.proofs.Named.{Named, slots-counted}
 use Rattle.network.proofs.Weights.{mark-protected, protected-mark, mark-le}
 use Rattle.network.proofs.Candidates.{near-slot, candidates-are, candidates-all}
-use Rattle.evidence.specs.Canonical.{weighings}
+use Rattle.evidence.specs.Canonical.{noCost, weighings}
 
 -- ---- the list
-
--- the weighing at a place
-abbrev pub at-place : List Cost → ℕ → Cost
-at-place ws i = getD ws i (record { block = 0; loss = 0; mark = 0 })
 
 map-at : {A B : Type 0} (f : A → B) (d : B) (c : A) (l : List A) (i : ℕ) → i < length l → getD (map f l) i d ≡ f (getD l i c)
 map-at f d c [] i h = absurd (not-suc-le-zero h)
@@ -36,7 +31,7 @@ module _ (p : Picture) where
   unfolding weighings
   weighings-length = length-map (candidates p) (weighed p)
 
-  pub weighing-at : (i : ℕ) → i < length (candidates p) → at-place (weighings p) i ≡ weighed p (getD (candidates p) i 0)
+  pub weighing-at : (i : ℕ) → i < length (candidates p) → getD (weighings p) i noCost ≡ weighed p (getD (candidates p) i 0)
   unfolding weighings
   weighing-at i h = map-at (weighed p) _ 0 (candidates p) i h
 
@@ -44,7 +39,7 @@ module _ (p : Picture) where
   pub record Weighs (b : ℕ) : Type 0 where
     pub at : ℕ
     pub within : at < length (weighings p)
-    pub same : at-place (weighings p) at ≡ weighed p b
+    pub same : getD (weighings p) at noCost ≡ weighed p b
 
   -- so does that of each candidate, where the candidates are blocks of the picture
   pub candidate-weighing : ((b : ℕ) → Candidate p b → b < blockCount p) → {b : ℕ} → Candidate p b → Weighs b
@@ -56,7 +51,7 @@ module _ (p : Picture) where
   pub record Weighing (i : ℕ) : Type 0 where
     pub block : ℕ
     pub candidate : Candidate p block
-    pub same : at-place (weighings p) i ≡ weighed p block
+    pub same : getD (weighings p) i noCost ≡ weighed p block
 
   pub weighing-candidate : (i : ℕ) → i < length (weighings p) → Weighing i
   weighing-candidate i h =

@@ -7,7 +7,6 @@ use Rattle.lists.specs.Rules.{Rule}
 use Rattle.graph.specs.Kept.{ForestKept}
 use Rattle.picture.specs.Layout.{Edition, editionOf}
 use Rattle.picture.specs.Picture.{Picture, pictureOf}
-use Rattle.picture.specs.Faults.{pictureFault}
 use Rattle.picture.specs.Rules.{rules}
 use Rattle.network.specs.Words.{slotCount, isHeld, heldWithout, joins, ServedWeight, Loss, CutsProtected, Candidate, Admissible}
 use Rattle.network.specs.Tests.{candidates}
@@ -32,10 +31,6 @@ pub record Numbers (e : Edition) (p : Picture) (ev : List ℕ) (i b : ℕ) : Typ
   pub loss : Loss p b (sectionIn e (slotCount p) ev i .loss)
   pub marked : sectionIn e (slotCount p) ev i .mark ≡ 1 → CutsProtected p b
   pub unmarked : CutsProtected p b → sectionIn e (slotCount p) ev i .mark ≡ 1
-
-pub record Section (e : Edition) (p : Picture) (ev : List ℕ) (i b : ℕ) : Type 0 where
-  pub forest : SectionForest e p ev i b
-  pub numbers : Numbers e p ev i b
 
 -- 16 where a block is named: a candidate that cuts no protected endpoint, with its loss, and none such loses less
 pub record LeastAdmissible (p : Picture) (block loss : ℕ) : Type 0 where
@@ -71,12 +66,3 @@ module _ (e : Edition) (p : Picture) (ev : List ℕ) where
 -- the picture's, and then those of the evidence
 unfoldable pub checkRules : List ℕ → List ℕ → List Rule
 checkRules bs ev = rules bs ++ evidenceRulesWith (editionOf bs) (pictureOf bs) ev
-
--- ---- evidence that passes for a picture
-pub record Passes (bs ev : List ℕ) : Type 0 where
-  pub accepted : pictureFault bs ≡ 0
-  pub form : Form (editionOf bs) (pictureOf bs) ev
-  pub forest : ForestKept (joins (pictureOf bs .links)) (isHeld (pictureOf bs)) (slotCount (pictureOf bs)) (firstForest (editionOf bs) (slotCount (pictureOf bs)) ev)
-  pub served : ServedWeight (pictureOf bs) (isHeld (pictureOf bs)) (headIn ev .served)
-  pub sections : (i : ℕ) → i < length (candidates (pictureOf bs)) → Section (editionOf bs) (pictureOf bs) ev i (getD (candidates (pictureOf bs)) i 0)
-  pub verdict : Verdict (pictureOf bs) (headIn ev .verdict) (headIn ev .block) (headIn ev .loss)
