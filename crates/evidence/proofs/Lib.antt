@@ -13,3 +13,4 @@ pub mod Judged
 pub mod Passing
 pub mod Unique
 pub mod Canonical
+pub mod Showing

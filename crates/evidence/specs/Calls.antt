@@ -1,10 +1,12 @@
 -- What choose, check and show do with their buffers, on every input. Assumes nothing.
 use mathlib.Core.Bool.{_&&_, cond}
 use mathlib.Core.List.{List, [], _∷_, _++_}
-use Prim.Native.Nat.{ℕ, _/_}
+use mathlib.Core.Path.{_≡_}
+use Prim.Native.Nat.{ℕ, _+_, _*_, _/_}
 use lib.Dec.{eqb, ltb}
 use lib.ListN.{length, take, drop}
-use Rattle.lists.specs.Lists.{on, first, filter}
+use Rattle.bits.specs.Bits.{fieldAt}
+use Rattle.lists.specs.Lists.{on, first, place}
 use Rattle.picture.specs.Layout.{Edition, editionOf}
 use Rattle.picture.specs.Picture.{Picture, pictureOf}
 use Rattle.picture.specs.Faults.{pictureFault}
@@ -35,9 +37,14 @@ unfoldable pub shownPart : List ℕ → List ℕ → Part
 shownPart bs ev =
     let e : Edition = editionOf bs in
     let p : Picture = pictureOf bs in
-    let before : ℕ = length (filter (λ c. ltb c (headIn ev .block)) (candidates p)) in
-    let section : Part = record { start = sectionAt e (slotCount p) before / 8; size = sectionBits e (slotCount p) / 8 } in
+    let i : ℕ = place (λ c. eqb c (headIn ev .block)) (candidates p) in
+    let section : Part = record { start = sectionAt e (slotCount p) i / 8; size = sectionBits e (slotCount p) / 8 } in
     cond (eqb (checkFault bs ev) 0 && eqb (headIn ev .verdict) 1) section (record { start = 0; size = 0 })
 
 unfoldable pub shown : List ℕ → List ℕ → List ℕ
 shown bs ev = take (shownPart bs ev .size) (drop (shownPart bs ev .start) ev)
+
+-- a section: as many bytes as one has for n slots, the first of which is the block's
+pub record SectionOf (n block : ℕ) (part : List ℕ) : Type 0 where
+  pub size : length part ≡ 5 + 2 * n
+  pub begins : fieldAt part 0 8 ≡ block

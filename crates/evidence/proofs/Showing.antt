@@ -1,0 +1,133 @@
+-- What show hands back: the empty part, or the section of the block that is named. Assumes nothing.
+use mathlib.Core.Path.{_≡_, refl, sym, ap, _∙_}
+use mathlib.Core.Bool.{_&&_, and-false}
+use mathlib.Core.Logic.{_≢_, by-cases}
+use mathlib.Core.List.{List}
+use Prim.Native.Nat.{ℕ, suc, _+_, _*_, _/_, _%_, _≤_, _<_}
+use native.Mathlib.Omega.{arith}
+use native.Mathlib.Decide.{ℕ-discrete}
+use native.Mathlib.Nat.{mul-le-mul-right, suc-mul}
+use borrow.Author.Tests.{eq-eqb, ne-eqb}
+use lib.Dec.{eqb, eqb→eq}
+use lib.ListN.{length, getD, take, drop, length-take, length-drop}
+use lib.Seq.{getD-take, getD-drop}
+use Rattle.bits.specs.Bits.{bitAt, fieldAt}
+use Rattle.bits.proofs.Reading.{number-ext}
+use Rattle.lists.specs.Lists.{place, sum}
+use Rattle.lists.proofs.Tests.{eq-T}
+use Rattle.lists.proofs.Searches.{place-holds, place-first}
+use Rattle.lists.proofs.Picks.{Placed}
+use Rattle.picture.specs.Layout.{edition1, fieldIn}
+use Rattle.picture.specs.Picture.{Picture, pictureOf}
+use Rattle.network.specs.Words.{slotCount, Candidate}
+use Rattle.network.specs.Tests.{candidates}
+use Rattle.network.proofs.Candidates.{candidates-all}
+use Rattle.evidence.specs.declared.Part.{Part}
+use Rattle.evidence.specs.Layout.{sectionWidths, sectionBits, sectionAt, evidenceBytes}
+use Rattle.evidence.specs.Checks.{headIn, sectionIn, checkFault}
+use Rattle.evidence.specs.Rules.{Verdict, chosen, none}
+use Rattle.evidence.specs.Calls.{shownPart, shown, SectionOf}
+use Rattle.evidence.proofs.Places.{section-bits, section-at}
+use Rattle.evidence.proofs.Lengths.{sections-end}
+use Rattle.evidence.proofs.Weighings.{candidate-below}
+use Rattle.evidence.proofs.Passing.{Passes, check-passes}
+
+-- ---- a part of some bytes
+
+-- a field of the s bytes from byte t on is a field of all of them
+part-field : (bs : List ℕ) (t s w : ℕ) → w ≤ s * 8 → fieldAt (take s (drop t bs)) 0 w ≡ fieldAt bs (t * 8) w
+unfolding fieldAt bitAt
+part-field bs t s w h =
+    number-ext _ _ w
+    (λ i l.
+    let a : (0 + i) / 8 < s = omega arith in
+    let b : t + (0 + i) / 8 ≡ (t * 8 + i) / 8 = omega arith in
+    let c : (0 + i) % 8 ≡ (t * 8 + i) % 8 = omega arith in
+    rw (getD-take s (drop t bs) ((0 + i) / 8) 0 a, getD-drop t bs ((0 + i) / 8) 0, b, c))
+
+-- ---- the part
+
+-- the verdict names a candidate
+named-candidate : {p : Picture} {v b l : ℕ} → Verdict p v b l → v ≡ 1 → Candidate p b
+named-candidate (chosen n) e = n .candidate
+named-candidate (none k) e = absurd (omega arith)
+
+module _ (bs ev : List ℕ) where
+  -- where the block that is named stands among the candidates
+  abbrev pub namedAt : ℕ
+  namedAt = place (λ c. eqb c (headIn ev .block)) (candidates (pictureOf bs))
+
+  -- the check fails, or the verdict is none
+  pub shown-failed : checkFault bs ev ≢ 0 → shownPart bs ev ≡ record { start = 0; size = 0 }
+  unfolding shownPart
+  shown-failed n = rw (ne-eqb (checkFault bs ev) 0 n)
+
+  pub shown-none : headIn ev .verdict ≢ 1 → shownPart bs ev ≡ record { start = 0; size = 0 }
+  unfolding shownPart
+  shown-none n = rw (ne-eqb (headIn ev .verdict) 1 n, and-false (eqb (checkFault bs ev) 0))
+
+  module _ (passed : checkFault bs ev ≡ 0) (one : headIn ev .verdict ≡ 1) where
+    pub shown-part : shownPart bs ev ≡ record { start = sectionAt edition1 (slotCount (pictureOf bs)) namedAt / 8; size = sectionBits edition1 (slotCount (pictureOf bs)) / 8 }
+    unfolding shownPart
+    shown-part = rw (eq-eqb (checkFault bs ev) 0 passed, eq-eqb (headIn ev .verdict) 1 one)
+
+    passes : Passes bs ev
+    passes = check-passes bs ev passed
+
+    placed : Placed 0 (candidates (pictureOf bs)) (headIn ev .block)
+    placed =
+        let c = named-candidate (passes .verdict) one in
+        candidates-all (pictureOf bs) (candidate-below bs (passes .accepted) (headIn ev .block) c) c
+
+    named-within : namedAt < length (candidates (pictureOf bs))
+    named-within =
+        let r = placed in
+        omega (arith, place-first 0 (λ c. eqb c (headIn ev .block)) (candidates (pictureOf bs)) (r .at) (r .within) (eq-T _ _ (r .same)), r .within)
+
+    named-block : getD (candidates (pictureOf bs)) namedAt 0 ≡ headIn ev .block
+    named-block =
+        let r = placed in
+        eqb→eq _ _ (place-holds 0 (λ c. eqb c (headIn ev .block)) (candidates (pictureOf bs)) (r .at) (r .within) (eq-T _ _ (r .same)))
+
+    section-room : shownPart bs ev .start + shownPart bs ev .size ≤ length ev
+    unfolding evidenceBytes
+    section-room =
+        let n = slotCount (pictureOf bs) in
+        let m = mul-le-mul-right (40 + n * 16) named-within in
+        rw shown-part
+        (omega (
+          arith,
+          m,
+          section-bits n,
+          passes .form .size,
+          section-at n namedAt,
+          section-at n (length (candidates (pictureOf bs))),
+          suc-mul namedAt (40 + n * 16),
+        ))
+
+    -- a section starts at a whole byte
+    whole-start : shownPart bs ev .start * 8 ≡ sectionAt edition1 (slotCount (pictureOf bs)) namedAt
+    whole-start = rw shown-part (let e = sections-end (slotCount (pictureOf bs)) namedAt in omega arith)
+
+    -- "hands back the chosen candidate's section of the evidence itself"
+    pub shown-section : SectionOf (slotCount (pictureOf bs)) (headIn ev .block) (shown bs ev)
+    unfolding shown sectionIn sectionWidths fieldIn sum
+    shown-section =
+        let n = slotCount (pictureOf bs) in
+        let size : shownPart bs ev .size ≡ 5 + 2 * n = ap (λ (p : Part). p .size) shown-part ∙ omega (arith, section-bits n) in
+        record {
+          size = simp (length-take, length-drop) (omega (arith, section-room, size));
+          begins =
+              part-field ev (shownPart bs ev .start) (shownPart bs ev .size) 8 (omega (arith, size))
+              ∙ ap (λ (q : ℕ). fieldAt ev q 8) (whole-start ∙ omega arith)
+              ∙ passes .form .blocks namedAt named-within
+              ∙ named-block;
+        }
+
+  -- the part is within the evidence
+  pub shown-room : shownPart bs ev .start + shownPart bs ev .size ≤ length ev
+  shown-room =
+      by-cases
+      (ℕ-discrete (checkFault bs ev) 0)
+      (λ z. by-cases (ℕ-discrete (headIn ev .verdict) 1) (λ e. section-room z e) (λ n. rw (shown-none n) (omega arith)))
+      (λ n. rw (shown-failed n) (omega arith))
