@@ -4,13 +4,13 @@ ghost use mathlib.Core.List.{[], _∷_, map};
 ghost use Prim.Native.Nat.{_+_, _-_, _*_, _≤_, _<_};
 ghost use lib.ListN.{length, getD};
 ghost use Rattle.bits.specs.Bits.{putField};
-ghost use Rattle.lists.specs.Lists.{first, sum};
+ghost use Rattle.lists.specs.Lists.{first, sum, outcome};
 ghost use Rattle.picture.specs.Layout.{edition1, slotWidths, slotsAt, sizeOf};
-ghost use Rattle.picture.specs.Picture.{headerIn, linkAt, pictureWith, slotOf, endpointOf};
+ghost use Rattle.picture.specs.Picture.{headerIn, headerOf, linkAt, pictureWith, slotOf, endpointOf};
 ghost use Rattle.picture.specs.Faults.{sizesRight, countsRight, slotFault, linkFault, serviceLinkFault, endRight, bodyFaults, pictureFault};
 ghost use Rattle.picture.specs.Rules.{noLink};
 ghost use Rattle.picture.specs.Inner.{Limited, placesOf};
-ghost use Rattle.picture.specs.Answers.{reading};
+ghost use Rattle.picture.specs.Answers.{reading, readingNumbers, headerValues};
 
 pub mod refusals;
 
@@ -438,7 +438,8 @@ fn fault(s: &[u8]) -> u8
 
 // Reads a picture of any bytes: accepted, with the header's numbers, or refused with the number of its first fault.
 pub fn read(s: &[u8]) -> Reading
-    ensures { λ r. ⌜ r ≡ reading (now (s .entry)) ⌝ }
+    ensures answer { λ r. ⌜ r ≡ reading (now (s .entry)) ⌝ }
+    ensures numbers { λ r. ⌜ readingNumbers r ≡ outcome (pictureFault (now (s .entry))) (headerValues (headerOf (now (s .entry)))) ⌝ }
 {
     let number = fault(s);
     if number == 0 {
