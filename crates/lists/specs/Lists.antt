@@ -21,6 +21,7 @@ first [] = 0
 first (zero ∷ xs) = first xs
 first (suc x ∷ xs) = suc x
 
+-- the numbers added up
 unfoldable pub sum : List ℕ → ℕ
 sum [] = 0
 sum (x ∷ xs) = x + sum xs
@@ -48,10 +49,12 @@ module _ {A : Type 0} where
   item l zero d = d
   item l (suc i) d = getD l i d
 
+  -- every element passes the test
   unfoldable pub all : (A → Bool) → List A → Bool
   all f [] = true
   all f (x ∷ xs) = f x && all f xs
 
+  -- some element passes the test
   unfoldable pub any : (A → Bool) → List A → Bool
   any f [] = false
   any f (x ∷ xs) = f x || any f xs
