@@ -11,6 +11,7 @@ use native.Mathlib.Nat.{add-zero, add-suc, suc-add, le-of-suc-le-suc, not-suc-le
 use lib.Dec.{T}
 use lib.ListN.{length, getD, List·getD-eq-default}
 use Rattle.lists.specs.Lists.{range, on, sum, item, filter}
+pub use Rattle.lists.specs.Lists.{Placed}
 use Rattle.lists.proofs.Ranges.{length-range, InRange}
 
 -- ---- an element by its number
@@ -26,12 +27,6 @@ item-inside {A} l (suc i) d = go (decLt i (length l))
     go (no h) = inr (List·getD-eq-default l d (omega arith))
 
 -- ---- the elements that a filter leaves
-
--- an element stands at some place
-pub record Placed {A : Type 0} (d : A) (l : List A) (x : A) : Type 0 where
-  pub at : ℕ
-  pub within : at < length l
-  pub same : getD l at d ≡ x
 
 module _ {A : Type 0} (d : A) (f : A → Bool) where
   -- each that is left passes

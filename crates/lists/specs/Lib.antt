@@ -1,4 +1,11 @@
--- Lists, rules and sums, as the specifications of the layers above use them.
+-- What the specifications of the layers above are written with. All of it is to be believed: the definitions that compute and those of
+-- which they are shown to be right use the same lists.
+
+-- ranges, sums, tests and searches of lists, each of a few lines
 pub mod Lists
+
+-- rules that are judged in order
 pub mod Rules
+
+-- a sum over the places at which something holds, each once
 pub mod Totals

@@ -1,9 +1,10 @@
 -- Ranges, tests and searches over lists, sums, and the first fault of a list of tests. Assumes nothing.
 use mathlib.Core.Bool.{Bool, true, false, _&&_, _||_, cond}
 use mathlib.Core.List.{List, [], _∷_, _++_}
-use Prim.Native.Nat.{ℕ, zero, suc, _+_}
+use mathlib.Core.Path.{_≡_}
+use Prim.Native.Nat.{ℕ, zero, suc, _+_, _<_}
 use lib.Dec.{eqb}
-use lib.ListN.{getD}
+use lib.ListN.{length, getD}
 
 -- k numbers from i on
 unfoldable pub range : ℕ → ℕ → List ℕ
@@ -21,6 +22,7 @@ first [] = 0
 first (zero ∷ xs) = first xs
 first (suc x ∷ xs) = suc x
 
+-- the numbers added up
 unfoldable pub sum : List ℕ → ℕ
 sum [] = 0
 sum (x ∷ xs) = x + sum xs
@@ -48,10 +50,12 @@ module _ {A : Type 0} where
   item l zero d = d
   item l (suc i) d = getD l i d
 
+  -- every element passes the test
   unfoldable pub all : (A → Bool) → List A → Bool
   all f [] = true
   all f (x ∷ xs) = f x && all f xs
 
+  -- some element passes the test
   unfoldable pub any : (A → Bool) → List A → Bool
   any f [] = false
   any f (x ∷ xs) = f x || any f xs
@@ -70,3 +74,9 @@ module _ {A : Type 0} where
   unfoldable pub flat : List (List A) → List A
   flat [] = []
   flat (x ∷ xs) = x ++ flat xs
+
+-- x is an element of the list
+pub record Placed {A : Type 0} (d : A) (l : List A) (x : A) : Type 0 where
+  pub at : ℕ
+  pub within : at < length l
+  pub same : getD l at d ≡ x

@@ -3,12 +3,12 @@
 use mathlib.Core.Path.{_≡_}
 use mathlib.Core.Logic.{_≢_}
 use mathlib.Core.List.{List}
-use Prim.Native.Nat.{ℕ, zero, suc, _-_, _≤_, _<_, zero-le, suc-le-suc}
+use Prim.Native.Nat.{ℕ, zero, suc, _≤_, _<_, zero-le, suc-le-suc}
 use native.Mathlib.Omega.{arith}
 use lib.Dec.{eqb, ltb, eqb→eq, ltb→lt, nltb→le}
 use lib.ListN.{length, getD}
 use Rattle.lists.specs.Lists.{item}
-use Rattle.lists.specs.Rules.{Judged, AllHold, more, none}
+use Rattle.lists.specs.Rules.{Judged, AllHold}
 use Rattle.lists.proofs.Tests.{eq-T}
 use Rattle.lists.proofs.Faults.{judge-test, judge-right, judge-each, judge-none, judged-all, all-judged, on-told, Numbered}
 use Rattle.picture.specs.declared.Header.{Header}
@@ -16,8 +16,9 @@ use Rattle.picture.specs.declared.Link.{Link}
 use Rattle.picture.specs.Layout.{Edition, editionOf, headerWidths, fieldIn, leastBytes, noState, sizeOf}
 use Rattle.picture.specs.Picture.{Slot, Picture, headerOf, pictureOf, slotOf}
 use Rattle.picture.specs.Faults.{sizesRight, countsRight, slotFault, linkFault, serviceLinkFault, endRight, bodyFaults, faultsWith, pictureFault}
-use Rattle.picture.specs.Rules.{States, Kept, rulesWith, rules, noLink}
+use Rattle.picture.specs.Rules.{States, rulesWith, rules, noLink}
 use Rattle.picture.proofs.Starts.{slots-length, rounded}
+use Rattle.picture.proofs.Kept.{Kept, holds-kept, kept-holds}
 use Rattle.picture.proofs.Judging.{right-sizes, sizes-right, right-counts, counts-right, right-state, state-right, right-link, link-right, right-service, service-right, right-ends, ends-right}
 
 -- each list has one number for its faults
@@ -80,17 +81,16 @@ module _ (bs : List ℕ) where
     (λ z. absurd (omega arith), (λ z. absurd (omega arith), (λ z. absurd (omega arith), (λ z. absurd (omega arith), (λ z. absurd (omega arith), (λ z. absurd (omega arith), (λ z. absurd (omega arith), (λ z. absurd (omega arith), tt)))))))),
   )
 
-  all-kept : AllHold (rules bs) → Kept bs
-  unfolding rules rulesWith
-  all-kept (more a (more b (more c (more d (more f (more g (more i (more j (more k none))))))))) =
-      record { header = a; edition = b; sizes = c; counts = d; long = f; states = g; links = i; services = j; ends = k }
+  -- accepted exactly where every rule of the layout holds
+  pub accepted-holds : pictureFault bs ≡ 0 → AllHold (rules bs)
+  accepted-holds = judged-all judged numbered
 
-  -- accepted exactly when every rule of the layout holds
+  pub holds-accepted : AllHold (rules bs) → pictureFault bs ≡ 0
+  holds-accepted = all-judged judged
+
+  -- the same with a name for each rule
   pub accepted-kept : pictureFault bs ≡ 0 → Kept bs
-  accepted-kept z = all-kept (judged-all judged numbered z)
+  accepted-kept z = holds-kept bs (accepted-holds z)
 
   pub kept-accepted : Kept bs → pictureFault bs ≡ 0
-  unfolding rules rulesWith
-  kept-accepted k =
-      all-judged judged
-      (more (k .header) (more (k .edition) (more (k .sizes) (more (k .counts) (more (k .long) (more (k .states) (more (k .links) (more (k .services) (more (k .ends) none)))))))))
+  kept-accepted k = holds-accepted (kept-holds k)

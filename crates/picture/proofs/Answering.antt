@@ -1,15 +1,16 @@
 -- What the answer of reading tells. Assumes nothing.
-use mathlib.Core.Path.{_≡_, refl, sym, _∙_}
+use mathlib.Core.Path.{_≡_, refl, sym, ap, _∙_}
 use mathlib.Core.Logic.{_≢_}
 use mathlib.Core.List.{List}
 use Prim.Native.Nat.{ℕ, zero, suc}
 use native.Mathlib.Omega.{arith}
 use Rattle.lists.specs.Lists.{outcome}
 use Rattle.picture.specs.declared.Header.{Header}
+use Rattle.picture.specs.declared.Reading.{Reading}
 use Rattle.picture.specs.declared.Reading.the-variants.{Accepted, Refused}
 use Rattle.picture.specs.Picture.{headerOf}
-use Rattle.picture.specs.Faults.{pictureFault}
-use Rattle.picture.specs.Answers.{headerValues, readingOf, reading, readingNumbers}
+use Rattle.picture.specs.Faults.{pictureFault, readingOf, reading}
+use Rattle.picture.specs.Answers.{headerValues, readingNumbers}
 use Rattle.picture.specs.Inner.{Read}
 
 -- ---- from the number to the answer
@@ -33,7 +34,7 @@ accepted-read bs h e = go (pictureFault bs) refl e
     go zero f q = record { accepted = f; header = cc }
     go (suc k) f q = let z : _≡_ {A = ℕ} 0 1 = cc in absurd (omega arith)
 
--- refused bytes have the fault whose number is outcome
+-- refused bytes have the fault whose number is told
 pub refused-fault : (bs : List ℕ) (k : ℕ) → Refused k ≡ reading bs → (pictureFault bs ≡ k) × (k ≢ 0)
 unfolding reading readingOf
 refused-fault bs k e = go (pictureFault bs) refl e
@@ -51,3 +52,7 @@ reading-numbers bs = go (pictureFault bs)
     go : (k : ℕ) → readingNumbers (readingOf k (headerOf bs)) ≡ outcome k (headerValues (headerOf bs))
     go zero = refl
     go (suc k) = refl
+
+-- so that an answer that is the reading has its numbers: what `read` ensures
+pub told : {r : Reading} (bs : List ℕ) → r ≡ reading bs → (r ≡ reading bs) × (readingNumbers r ≡ outcome (pictureFault bs) (headerValues (headerOf bs)))
+told bs e = (e, ap readingNumbers e ∙ reading-numbers bs)

@@ -29,7 +29,7 @@ module _ (bs : List ℕ) (h : Header) (r : Read bs h) where
   read-links = subst (λ (k : Header). Links (k .slots) (pictureOf bs)) (sym (r .header)) (accepted-kept bs (r .accepted) .links)
 
   pub read-services : ServiceLinks (h .slots) (h .endpoints) (pictureOf bs)
-  read-services = subst (λ (k : Header). ServiceLinks (k .slots) (k .endpoints) (pictureOf bs)) (sym (r .header)) (accepted-kept bs (r .accepted) .services)
+  read-services = subst (λ (k : Header). ServiceLinks (k .slots) (k .endpoints) (pictureOf bs)) (sym (r .header)) (accepted-kept bs (r .accepted) .serviceLinks)
 
   -- the lists are as long as it says
   pub read-slots-length : length (pictureOf bs .slots) ≡ h .slots

@@ -1,6 +1,7 @@
 -- Laws of the picture's layout.
 pub mod Starts
 pub mod Judging
+pub mod Kept
 pub mod Accepted
 pub mod Answering
 pub mod Facts

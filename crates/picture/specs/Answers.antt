@@ -1,26 +1,15 @@
--- What reading a picture answers, by document 01's numbers. Assumes nothing.
+-- Document 01's numbers for each case of the answer of reading. Assumes nothing.
 use mathlib.Core.List.{List, [], _∷_}
-use mathlib.Core.Path.{_≡_}
-use Prim.Native.Nat.{ℕ, zero, suc}
+use Prim.Native.Nat.{ℕ}
 use Rattle.picture.specs.declared.Header.{Header}
 use Rattle.picture.specs.declared.Reading.{Reading}
 use Rattle.picture.specs.declared.Reading.the-variants.{Accepted, Refused}
-use Rattle.picture.specs.Picture.{headerOf}
-use Rattle.picture.specs.Faults.{pictureFault}
 
 -- β, n, κ, D, L, S
 unfoldable pub headerValues : Header → List ℕ
 headerValues h = h .«block_size» ∷ h .slots ∷ h .«near_limit» ∷ h .endpoints ∷ h .links ∷ h .«service_links» ∷ []
 
--- 0 is accepted, with the header's numbers; any other number is a refusal, which gives its number and nothing else
-unfoldable pub readingOf : ℕ → Header → Reading
-readingOf zero h = Accepted h
-readingOf (suc k) h = Refused (suc k)
-
-unfoldable pub reading : List ℕ → Reading
-reading bs = readingOf (pictureFault bs) (headerOf bs)
-
--- 01's number and values for each case
+-- accepted is 0, with the header's numbers; a refusal gives its number and nothing else
 unfoldable pub readingNumbers : Reading → List ℕ
 readingNumbers (Accepted h) = 0 ∷ headerValues h
 readingNumbers (Refused k) = k ∷ []

@@ -14,6 +14,7 @@ pub record Edition : Type 0 where
   pub locationBits : ℕ
   pub slotsMax : ℕ
 
+-- edition 1
 abbrev pub edition1 : Edition
 edition1 = record { number = 1; slotsBits = 8; nearLimitBits = 8; locationBits = 8; slotsMax = 240 }
 
@@ -79,18 +80,23 @@ noState = 3
 abbrev pub leastBytes : ℕ
 leastBytes = 7
 
+-- the slots follow the header
 unfoldable pub slotsAt : Edition → ℕ
 slotsAt e = sum (headerWidths e)
 
+-- then the endpoints
 unfoldable pub endpointsAt : Edition → Header → ℕ
 endpointsAt e h = slotsAt e + h .slots * sum slotWidths
 
+-- the links
 unfoldable pub linksAt : Edition → Header → ℕ
 linksAt e h = endpointsAt e h + h .endpoints * sum endpointWidths
 
+-- the service links
 unfoldable pub serviceLinksAt : Edition → Header → ℕ
 serviceLinksAt e h = linksAt e h + h .links * sum (linkWidths e)
 
+-- where the last of them ends
 unfoldable pub endAt : Edition → Header → ℕ
 endAt e h = serviceLinksAt e h + h .«service_links» * sum (serviceLinkWidths e)
 

@@ -29,6 +29,7 @@ pub record Picture : Type 0 where
 
 -- ---- what the bytes say
 
+-- the header's numbers
 unfoldable pub headerIn : Edition → List ℕ → Header
 headerIn e bs =
     record {
@@ -40,13 +41,15 @@ headerIn e bs =
       «service_links» = fieldIn bs (headerWidths e) 0 6;
     }
 
--- a slot, an endpoint, a link or a service link that starts at bit p
+-- a slot that starts at bit p
 unfoldable pub slotAt : List ℕ → ℕ → Slot
 slotAt bs p = record { state = fieldIn bs slotWidths p 0; near = eqb (fieldIn bs slotWidths p 1) 1 }
 
+-- an endpoint
 unfoldable pub endpointAt : List ℕ → ℕ → Endpoint
 endpointAt bs p = record { weight = fieldIn bs endpointWidths p 0; protected = eqb (fieldIn bs endpointWidths p 1) 1 }
 
+-- a link or a service link, whose ends have these widths
 unfoldable pub linkAt : List ℕ → List ℕ → ℕ → Link
 linkAt widths bs p = record { from = fieldIn bs widths p 0; to = fieldIn bs widths p 1 }
 
@@ -66,9 +69,11 @@ pictureWith e h bs =
       serviceLinks = rows (linkAt (serviceLinkWidths e) bs) (serviceLinksAt e h) (sum (serviceLinkWidths e)) (h .«service_links»);
     }
 
+-- the header of any bytes
 unfoldable pub headerOf : List ℕ → Header
 headerOf bs = headerIn (editionOf bs) bs
 
+-- the picture of any bytes
 unfoldable pub pictureOf : List ℕ → Picture
 pictureOf bs = pictureWith (editionOf bs) (headerOf bs) bs
 

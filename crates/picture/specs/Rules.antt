@@ -1,4 +1,4 @@
--- The rules of a picture's layout as propositions, in the order of document 01, and what an accepted picture keeps. Assumes nothing.
+-- The rules of a picture's layout as propositions, with their numbers and in the order of document 01. Assumes nothing.
 use mathlib.Core.List.{List, [], _∷_}
 use mathlib.Core.Path.{_≡_}
 use mathlib.Core.Logic.{_≢_}
@@ -8,7 +8,7 @@ use Rattle.bits.specs.Bits.{bitAt}
 use Rattle.lists.specs.Rules.{Rule}
 use Rattle.picture.specs.declared.Header.{Header}
 use Rattle.picture.specs.declared.Link.{Link}
-use Rattle.picture.specs.Layout.{Edition, edition1, editionOf, headerWidths, fieldIn, blockSizeMax, blocksMax, endpointsMax, linksMax, noState, leastBytes, endAt, sizeOf}
+use Rattle.picture.specs.Layout.{Edition, editionOf, headerWidths, fieldIn, blockSizeMax, blocksMax, endpointsMax, linksMax, noState, leastBytes, endAt, sizeOf}
 use Rattle.picture.specs.Picture.{Picture, headerOf, pictureOf, slotOf}
 
 -- "β is 1 to 8; n is 1 to 240, a multiple of β with n/β at most 60"
@@ -64,17 +64,6 @@ rulesWith e h p bs =
     ∷ record { number = 7; holds = Ends e h bs }
     ∷ []
 
+-- the rules of any bytes: a picture is accepted where all of them hold, and else refused with the number of the first that is broken
 unfoldable pub rules : List ℕ → List Rule
 rules bs = rulesWith (editionOf bs) (headerOf bs) (pictureOf bs) bs
-
--- every rule is kept: what accepted bytes are
-pub record Kept (bs : List ℕ) : Type 0 where
-  pub header : leastBytes ≤ length bs
-  pub edition : fieldIn bs (headerWidths (editionOf bs)) 0 0 ≡ editionOf bs .number
-  pub sizes : Sizes (editionOf bs) (headerOf bs)
-  pub counts : Counts (headerOf bs)
-  pub long : sizeOf (editionOf bs) (headerOf bs) ≤ length bs
-  pub states : States (headerOf bs .slots) (pictureOf bs)
-  pub links : Links (headerOf bs .slots) (pictureOf bs)
-  pub services : ServiceLinks (headerOf bs .slots) (headerOf bs .endpoints) (pictureOf bs)
-  pub ends : Ends (editionOf bs) (headerOf bs) bs

@@ -4,15 +4,15 @@ ghost use mathlib.Core.List.{[], _∷_, map};
 ghost use Prim.Native.Nat.{_+_, _-_, _*_, _≤_, _<_};
 ghost use lib.ListN.{length, getD};
 ghost use Rattle.bits.specs.Bits.{putField};
-ghost use Rattle.lists.specs.Lists.{first, sum};
+ghost use Rattle.lists.specs.Lists.{first, sum, outcome};
 ghost use Rattle.picture.specs.Layout.{edition1, slotWidths, slotsAt, sizeOf};
-ghost use Rattle.picture.specs.Picture.{headerIn, linkAt, pictureWith, slotOf, endpointOf};
-ghost use Rattle.picture.specs.Faults.{sizesRight, countsRight, slotFault, linkFault, serviceLinkFault, endRight, bodyFaults, pictureFault};
+ghost use Rattle.picture.specs.Picture.{headerIn, headerOf, linkAt, pictureWith, slotOf, endpointOf};
+ghost use Rattle.picture.specs.Faults.{sizesRight, countsRight, slotFault, linkFault, serviceLinkFault, endRight, bodyFaults, pictureFault, reading};
 ghost use Rattle.picture.specs.Rules.{noLink};
 ghost use Rattle.picture.specs.Inner.{Limited, placesOf};
-ghost use Rattle.picture.specs.Answers.{reading};
+ghost use Rattle.picture.specs.Answers.{headerValues, readingNumbers};
 
-mod faults;
+pub mod refusals;
 
 // Widths in bits, in the order of the fields.
 const EDITION_BITS: usize = 4;
@@ -301,7 +301,7 @@ fn states_fault(s: &[u8], h: Header) -> u8
     let mut i: usize = 0;
     while i < n {
         if slot_state(s, h, i + 1) == NO_STATE {
-            return faults::STATE;
+            return refusals::STATE;
         }
         i += 1;
     }
@@ -315,10 +315,10 @@ fn link_fault(l: Link, n: usize) -> u8
     let from = l.from;
     let to = l.to;
     if n < from {
-        return faults::LINK;
+        return refusals::LINK;
     }
     if n < to {
-        return faults::LINK;
+        return refusals::LINK;
     }
     0
 }
@@ -347,13 +347,13 @@ fn service_link_fault(l: Link, n: usize, d: usize) -> u8
     let from = l.from;
     let to = l.to;
     if n < from {
-        return faults::SERVICE_LINK;
+        return refusals::LINK;
     }
     if to == 0 {
-        return faults::SERVICE_LINK;
+        return refusals::LINK;
     }
     if d < to {
-        return faults::SERVICE_LINK;
+        return refusals::LINK;
     }
     0
 }
@@ -408,7 +408,7 @@ fn body_fault(s: &[u8], h: Header) -> u8
     if end_right(s, h) {
         return 0;
     }
-    faults::END
+    refusals::FILL
 }
 
 // The number of the first fault, or 0.
@@ -416,29 +416,30 @@ fn fault(s: &[u8]) -> u8
     ensures { λ r. ⌜ r ≡ pictureFault (now (s .entry)) ⌝ }
 {
     if s.len() < LEAST_BYTES {
-        return faults::SHORT;
+        return refusals::SHORT;
     }
     if bits::field(s, 0, EDITION_BITS) != EDITION {
-        return faults::EDITION;
+        return refusals::EDITION;
     }
     let h = header_of(s);
     let sizes = sizes_right(h);
     if !sizes {
-        return faults::SIZES;
+        return refusals::BLOCKS;
     }
     let counts = counts_right(h);
     if !counts {
-        return faults::COUNTS;
+        return refusals::COUNTS;
     }
     if s.len() < size_of(h) {
-        return faults::SHORT;
+        return refusals::SHORT;
     }
     body_fault(s, h)
 }
 
 // Reads a picture of any bytes: accepted, with the header's numbers, or refused with the number of its first fault.
 pub fn read(s: &[u8]) -> Reading
-    ensures { λ r. ⌜ r ≡ reading (now (s .entry)) ⌝ }
+    ensures answer { λ r. ⌜ r ≡ reading (now (s .entry)) ⌝ }
+    ensures numbers { λ r. ⌜ readingNumbers r ≡ outcome (pictureFault (now (s .entry))) (headerValues (headerOf (now (s .entry)))) ⌝ }
 {
     let number = fault(s);
     if number == 0 {

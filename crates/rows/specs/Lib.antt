@@ -1,2 +1,2 @@
--- The definitions that the contracts of `rows` cite.
+-- The definitions that the contracts of `rows` cite. They serve inner contracts alone: no answer of the library speaks of rows
 pub mod Rows

@@ -1,6 +1,6 @@
 -- `link_at` reads two adjacent fields as one. Assumes nothing.
 use mathlib.Core.Path.{ap, _∙_}
-use Prim.Native.Nat.{ℕ, _-_, _/_, _^_}
+use Prim.Native.Nat.{ℕ, _/_, _^_}
 use native.Mathlib.Omega.{arith}
 use Rattle.bits.proofs.Masks.{mask-made, masked}
 use Rattle.picture.proofs.Starts.{link-halves}

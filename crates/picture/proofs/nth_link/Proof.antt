@@ -1,6 +1,6 @@
 -- `nth_link` reads a link of the picture. Assumes nothing.
 use mathlib.Core.Path.{sym, ap, _∙_}
-use Prim.Native.Nat.{_+_, _-_, _*_}
+use Prim.Native.Nat.{_+_, _*_}
 use native.Mathlib.Omega.{arith}
 use Rattle.lists.specs.Lists.{sum}
 use Rattle.picture.specs.Layout.{edition1, linkWidths}

@@ -1,6 +1,6 @@
 -- `slot_near` reads a slot's near mark. Assumes nothing.
 use mathlib.Core.Path.{sym, ap, _∙_}
-use Prim.Native.Nat.{ℕ, _-_}
+use Prim.Native.Nat.{ℕ}
 use lib.Dec.{eqb}
 use Rattle.lists.specs.Lists.{sum}
 use Rattle.picture.specs.Layout.{edition1, slotsAt, headerWidths, slotWidths}
