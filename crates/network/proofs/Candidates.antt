@@ -14,7 +14,7 @@ use Rattle.lists.proofs.Filters.{filter-below}
 use Rattle.lists.proofs.Picks.{item-inside, Placed, filter-passes, range-leaves, filter-rises}
 use Rattle.picture.specs.Picture.{Slot, Picture, slotOf}
 use Rattle.network.specs.Words.{slotCount, blockCount, inBlock, isHeld, Candidate}
-use Rattle.network.specs.Tests.{isCandidate, candidates}
+use Rattle.network.specs.Tests.{isNearHeld, isCandidate, candidates}
 
 -- ---- the test
 
@@ -24,7 +24,7 @@ unfolding slotOf slotCount
 near-slot p v t = ⊎-elim (λ h. h) (λ e. absurd (subst (λ (s : Slot). T (s .near)) e t)) (item-inside (p .slots) v _)
 
 pub candidate-test : (p : Picture) (b : ℕ) → T (isCandidate p b) → Candidate p b
-unfolding isCandidate
+unfolding isCandidate isNearHeld
 candidate-test p b t =
     let r = any-range _ 1 (slotCount p) t in
     let v = r .number in
@@ -33,7 +33,7 @@ candidate-test p b t =
     record { slot = v; inside = s .0; held = u .0; near = u .1 }
 
 pub test-candidate : {p : Picture} {b : ℕ} → Candidate p b → T (isCandidate p b)
-unfolding isCandidate
+unfolding isCandidate isNearHeld
 test-candidate {p} {b} c =
     let v = c .slot in
     let l = near-slot p v (c .near) in

@@ -7,29 +7,36 @@ use Prim.Native.Nat.{ℕ, _+_, _*_, _≤_, _<_}
 use native.Mathlib.Omega.{arith}
 use native.Mathlib.Decide.{decLe, decLt, ℕ-discrete}
 use borrow.Author.Tests.{le-leb, lt-leb, lt-ltb, le-ltb, eq-eqb, ne-eqb}
-use lib.Dec.{leb, ltb, eqb}
+use lib.Dec.{T, leb, ltb, eqb}
 use lib.ListN.{length, getD, take, replicate, length-replicate, getD-replicate, List·getD-eq-default}
 use Rattle.lists.proofs.Tests.{is-false}
 use Rattle.lists.proofs.Prefixes.{any-take-none, any-take-more, any-take-all}
-use Rattle.rows.specs.Rows.{marked, linkedIn, With, Linked, locationsMax, rowWords}
+use Rattle.rows.specs.Rows.{marked, linkedIn, With, Linked, rowWords}
 use Rattle.rows.proofs.Marks.{none-marked}
 use Rattle.picture.specs.declared.Link.{Link}
 use Rattle.picture.specs.Rules.{noLink}
 use Rattle.network.specs.Words.{joins}
-use Rattle.network.specs.Rows.{RowsOf}
+use Rattle.network.specs.Rows.{Clear, RowsOf}
 
 -- a row of zeros marks nothing
+pub zeros-unmarked : (n v : ℕ) → ¬ T (marked (replicate n 0) v)
+zeros-unmarked n v = none-marked (replicate n 0) n (omega (arith, length-replicate {A = ℕ} n 0)) (λ j l. getD-replicate n j 0 0 l) v
+
 pub clear-row : (n v : ℕ) → marked (replicate n 0) v ≡ false
-clear-row n v = is-false (marked (replicate n 0) v) (none-marked (replicate n 0) n (omega (arith, length-replicate {A = ℕ} n 0)) (λ j l. getD-replicate n j 0 0 l) v)
+clear-row n v = is-false (marked (replicate n 0) v) (zeros-unmarked n v)
 
 -- and so does a table of such rows
-pub clear-table : (m n a b : ℕ) → linkedIn (replicate m (replicate n 0)) a b ≡ false
+clear-table : (m n a b : ℕ) → linkedIn (replicate m (replicate n 0)) a b ≡ false
 unfolding linkedIn
 clear-table m n a b =
     by-cases
     (decLt a m)
     (λ l. ap (λ (r : List ℕ). marked r b) (getD-replicate m a (replicate n 0) [] l) ∙ clear-row n b)
     (λ g. ap (λ (r : List ℕ). marked r b) (List·getD-eq-default (replicate m (replicate n 0)) [] {n = a} (omega (arith, length-replicate m (replicate {A = ℕ} n 0)))) ∙ clear-row 0 b)
+
+-- a table as it is made
+pub clear-made : (k : ℕ) → Clear k (replicate k (replicate rowWords 0))
+clear-made k = record { many = length-replicate k (replicate {A = ℕ} rowWords 0); none = clear-table k rowWords }
 
 -- ---- a table, mark by mark
 
@@ -40,27 +47,28 @@ eqb-comm a b = by-cases (ℕ-discrete a b) (λ e. eq-eqb a b e ∙ sym (eq-eqb b
 abbrev leads : ℕ → ℕ → Link → Bool
 leads x y l = eqb (l .from) x && eqb (l .to) y
 
--- a table of the first i links
-abbrev pub Linking : List Link → List (List ℕ) → ℕ → Type 0
-Linking ls table i = RowsOf (joins (take i ls)) table
+-- a table of k rows with the first i links
+abbrev pub Linking : ℕ → List Link → List (List ℕ) → ℕ → Type 0
+Linking k ls table i = RowsOf k (joins (take i ls)) table
 
-module _ (ls : List Link) where
-  pub linking-begun : Linking ls (replicate locationsMax (replicate rowWords 0)) 0
+module _ (k : ℕ) (ls : List Link) where
+  pub linking-begun : (table : List (List ℕ)) → Clear k table → Linking k ls table 0
   unfolding joins
-  linking-begun = record { many = length-replicate locationsMax (replicate {A = ℕ} rowWords 0); same = λ x y. clear-table locationsMax rowWords x y ∙ sym (any-take-none noLink (leads x y) ls) }
+  linking-begun table c = record { many = c .many; same = λ x y. c .none x y ∙ sym (any-take-none noLink (leads x y) ls) }
 
   -- a link that is marked a second time counts once: its mark is there already
-  pub linking-next : (table table′ : List (List ℕ)) (i : ℕ) (l : Link) → Linking ls table i → i < length ls → l ≡ getD ls i noLink → Linked table (l .from) (l .to) table′
-      → Linking ls table′ (i + 1)
+  pub linking-next : (table table′ : List (List ℕ)) (i : ℕ) (l : Link) → Linking k ls table i → i < length ls → l ≡ getD ls i noLink → Linked table (l .from) (l .to) table′
+      → Linking k ls table′ (i + 1)
   unfolding joins
-  linking-next table table′ i l k h e m = record { many = m .many ∙ k .many; same = λ x y. m .links x y ∙ ap₂ _||_ (k .same x y) (here x y) ∙ sym (any-take-more noLink (leads x y) ls i h) }
+  linking-next table table′ i l r h e m =
+      record { many = m .many ∙ r .many; same = λ x y. m .links x y ∙ ap₂ _||_ (r .same x y) (here x y) ∙ sym (any-take-more noLink (leads x y) ls i h) }
     where
       here : (x y : ℕ) → (eqb x (l .from) && eqb y (l .to)) ≡ leads x y (getD ls i noLink)
       here x y = ap₂ _&&_ (eqb-comm x (l .from)) (eqb-comm y (l .to)) ∙ ap (leads x y) e
 
-  pub linking-ended : (table : List (List ℕ)) (i : ℕ) → Linking ls table i → length ls ≤ i → RowsOf (joins ls) table
+  pub linking-ended : (table : List (List ℕ)) (i : ℕ) → Linking k ls table i → length ls ≤ i → RowsOf k (joins ls) table
   unfolding joins
-  linking-ended table i k h = record { many = k .many; same = λ x y. k .same x y ∙ any-take-all noLink (leads x y) ls i h }
+  linking-ended table i r h = record { many = r .many; same = λ x y. r .same x y ∙ any-take-all noLink (leads x y) ls i h }
 
 -- ---- a row, slot by slot
 

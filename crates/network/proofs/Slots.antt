@@ -16,7 +16,8 @@ use Rattle.rows.specs.Rows.{marked, locationsMax}
 use Rattle.graph.specs.Held.{heldIn}
 use Rattle.picture.specs.Picture.{Slot, Picture, slotOf}
 use Rattle.network.specs.Words.{slotCount, isHeld}
-use Rattle.network.specs.Rows.{isNearHeld, SlotRowsOf}
+use Rattle.network.specs.Tests.{isNearHeld}
+use Rattle.network.specs.Rows.{SlotRowsOf}
 use Rattle.network.proofs.Candidates.{near-slot}
 use Rattle.network.proofs.Making.{Scanned}
 

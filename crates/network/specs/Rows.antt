@@ -8,13 +8,19 @@ use lib.ListN.{length, getD}
 use Rattle.rows.specs.Rows.{marked, linkedIn, locationsMax}
 use Rattle.graph.specs.Held.{heldIn, SlotsOnly}
 use Rattle.picture.specs.declared.Header.{Header}
-use Rattle.picture.specs.Picture.{Picture, slotOf, endpointOf}
+use Rattle.picture.specs.Picture.{Picture, endpointOf}
 use Rattle.picture.specs.Layout.{endpointsMax}
 use Rattle.network.specs.Words.{isHeld, joins, weightOf}
+use Rattle.network.specs.Tests.{isNearHeld}
 
--- rows that mark b in row a exactly where f says so
-pub record RowsOf (f : ℕ → ℕ → Bool) (table : List (List ℕ)) : Type 0 where
-  pub many : length table ≡ locationsMax
+-- k rows that mark nothing
+pub record Clear (k : ℕ) (table : List (List ℕ)) : Type 0 where
+  pub many : length table ≡ k
+  pub none : (a b : ℕ) → linkedIn table a b ≡ false
+
+-- k rows that mark b in row a exactly where f says so
+pub record RowsOf (k : ℕ) (f : ℕ → ℕ → Bool) (table : List (List ℕ)) : Type 0 where
+  pub many : length table ≡ k
   pub same : (a b : ℕ) → linkedIn table a b ≡ f a b
 
 -- how many links the header says there are, or (true) service links
@@ -22,14 +28,15 @@ abbrev pub countOf : Bool → Header → ℕ
 countOf false h = h .links
 countOf true h = h .«service_links»
 
+-- the rows of the links, one for each location, or (true) those of the service links, one for each endpoint by its number, and for 0
+abbrev pub rowsFor : Bool → ℕ
+rowsFor false = locationsMax
+rowsFor true = suc endpointsMax
+
 -- what the rows of the links mark, each from its location, or (true) those of the service links, each from its endpoint
 abbrev pub tableOf : Bool → Picture → ℕ → ℕ → Bool
 tableOf false p = joins (p .links)
 tableOf true p = λ c a. joins (p .serviceLinks) a c
-
--- a slot that is held and near
-unfoldable pub isNearHeld : Picture → ℕ → Bool
-isNearHeld p v = isHeld p v && slotOf p v .near
 
 -- the rows of the held slots and of the held near slots
 pub record SlotRowsOf (p : Picture) (holding nearby : List ℕ) : Type 0 where

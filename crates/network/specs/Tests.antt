@@ -27,6 +27,7 @@ cut p now without c = served p now c && not (served p without c)
 unfoldable pub weightWhere : Picture → (ℕ → Bool) → ℕ
 weightWhere p f = sum (map (λ c. on (f c) (weightOf p c)) (range 1 (endpointCount p)))
 
+-- the served weight
 unfoldable pub servedWeight : Picture → ℕ
 servedWeight p = let now : List Bool = marks p (isHeld p) in weightWhere p (served p now)
 
@@ -41,8 +42,13 @@ weighed p b =
       mark = on (any (λ c. endpointOf p c .protected && cut p now without c) (range 1 (endpointCount p))) 1;
     }
 
+-- a slot is held and near
+unfoldable pub isNearHeld : Picture → ℕ → Bool
+isNearHeld p v = isHeld p v && slotOf p v .near
+
+-- a block has at least one held near slot
 unfoldable pub isCandidate : Picture → ℕ → Bool
-isCandidate p b = any (λ v. inBlock p b v && (isHeld p v && slotOf p v .near)) (range 1 (slotCount p))
+isCandidate p b = any (λ v. inBlock p b v && isNearHeld p v) (range 1 (slotCount p))
 
 -- the candidates in rising order
 unfoldable pub candidates : Picture → List ℕ

@@ -1,11 +1,14 @@
 // A picture's network as rows of marks: links, service links, held and near slots, blocks, and the endpoints' weights.
 ghost use mathlib.Core.Path.{_≡_};
-ghost use Prim.Native.Nat.{_+_, _*_, _≤_};
-ghost use Rattle.rows.specs.Rows.{slotsMax};
+ghost use Prim.Native.Nat.{suc, _+_, _*_, _≤_};
+ghost use lib.ListN.{replicate};
+ghost use Rattle.rows.specs.Rows.{slotsMax, locationsMax};
+ghost use Rattle.picture.specs.Layout.{endpointsMax};
 ghost use Rattle.picture.specs.Picture.{pictureOf};
 ghost use Rattle.picture.specs.Inner.{Read};
 ghost use Rattle.network.specs.Words.{joins, isHeld};
-ghost use Rattle.network.specs.Rows.{countOf, tableOf, RowsOf, isNearHeld, SlotRowsOf, BlockRow, EndpointsOf};
+ghost use Rattle.network.specs.Tests.{isNearHeld};
+ghost use Rattle.network.specs.Rows.{Clear, RowsOf, countOf, rowsFor, tableOf, SlotRowsOf, BlockRow, EndpointsOf};
 use picture::ENDPOINTS_MAX;
 use picture::HELD;
 use picture::Header;
@@ -28,46 +31,38 @@ pub struct Cost {
     pub mark: usize,
 }
 
-// The endpoints' weights, and the protected ones.
-pub struct Endpoints {
-    pub weights: [u32; ENDPOINTS],
-    pub protected: [u64; WORDS],
-}
-
-// The rows of the links, or of the service links; `count` says how many these are.
-fn mark_rows(s: &[u8], h: Header, count: usize, services: bool) -> [[u64; WORDS]; LOCATIONS]
-    requires { ⌜ Read (now s) h × (count ≡ countOf services h) ⌝ }
-    ensures { λ r. ⌜ RowsOf (tableOf services (pictureOf (now (s .entry)))) r ⌝ }
+// Marks in a clear table the links, or the service links; `count` says how many these are.
+fn mark_rows(s: &[u8], h: Header, count: usize, services: bool, table: &mut [[u64; WORDS]])
+    requires { ⌜ Read (now s) h × (count ≡ countOf services h) × Clear (rowsFor services) (now table) ⌝ }
+    ensures { λ _. ⌜ RowsOf (rowsFor services) (tableOf services (pictureOf (now (s .entry)))) (now (table .exit)) ⌝ }
 {
-    let mut table = [[0u64; WORDS]; LOCATIONS];
     let mut i: usize = 0;
     while i < count {
         if services {
             let l = picture::nth_service_link(s, h, i);
-            rows::mark(&mut table, l.to, l.from);
+            rows::mark(table, l.to, l.from);
         } else {
             let l = picture::nth_link(s, h, i);
-            rows::mark(&mut table, l.from, l.to);
+            rows::mark(table, l.from, l.to);
         }
         i += 1;
     }
-    table
 }
 
-// The links: row a marks b where a link leads from a to b.
-pub fn link_rows(s: &[u8], h: Header) -> [[u64; WORDS]; LOCATIONS]
-    requires { ⌜ Read (now s) h ⌝ }
-    ensures { λ r. ⌜ RowsOf (joins (pictureOf (now (s .entry)) .links)) r ⌝ }
+// Marks the links in a clear table: row a marks b where a link leads from a to b.
+pub fn link_rows(s: &[u8], h: Header, table: &mut [[u64; WORDS]; LOCATIONS])
+    requires { ⌜ Read (now s) h × Clear locationsMax (now table) ⌝ }
+    ensures { λ _. ⌜ RowsOf locationsMax (joins (pictureOf (now (s .entry)) .links)) (now (table .exit)) ⌝ }
 {
-    mark_rows(s, h, h.links, false)
+    mark_rows(s, h, h.links, false, table);
 }
 
-// The service links: row c marks each location that serves endpoint c.
-pub fn service_link_rows(s: &[u8], h: Header) -> [[u64; WORDS]; LOCATIONS]
-    requires { ⌜ Read (now s) h ⌝ }
-    ensures { λ r. ⌜ RowsOf (λ c a. joins (pictureOf (now (s .entry)) .serviceLinks) a c) r ⌝ }
+// Marks the service links in a clear table: row c marks each location that serves endpoint c.
+pub fn service_link_rows(s: &[u8], h: Header, table: &mut [[u64; WORDS]; ENDPOINTS])
+    requires { ⌜ Read (now s) h × Clear (suc endpointsMax) (now table) ⌝ }
+    ensures { λ _. ⌜ RowsOf (suc endpointsMax) (λ c a. joins (pictureOf (now (s .entry)) .serviceLinks) a c) (now (table .exit)) ⌝ }
 {
-    mark_rows(s, h, h.service_links, true)
+    mark_rows(s, h, h.service_links, true, table);
 }
 
 // Whether slot v is held.
@@ -125,13 +120,12 @@ pub fn block_row(size: usize, b: usize) -> [u64; WORDS]
     row
 }
 
-// The endpoints' weights and the protected ones.
-pub fn endpoint_rows(s: &[u8], h: Header) -> Endpoints
-    requires { ⌜ Read (now s) h ⌝ }
-    ensures { λ r. ⌜ EndpointsOf (pictureOf (now (s .entry))) (r .weights) (r .protected) ⌝ }
+// Writes the endpoints' weights into an array of zeros, and gives the row of the protected ones.
+pub fn endpoint_rows(s: &[u8], h: Header, weights: &mut [u32; ENDPOINTS]) -> [u64; WORDS]
+    requires { ⌜ Read (now s) h × (now weights ≡ replicate (suc endpointsMax) 0) ⌝ }
+    ensures { λ r. ⌜ EndpointsOf (pictureOf (now (s .entry))) (now (weights .exit)) r ⌝ }
 {
     let d = h.endpoints;
-    let mut weights = [0u32; ENDPOINTS];
     let mut protected = [0u64; WORDS];
     let mut c: usize = 1;
     while c <= d {
@@ -141,5 +135,5 @@ pub fn endpoint_rows(s: &[u8], h: Header) -> Endpoints
         }
         c += 1;
     }
-    Endpoints { weights, protected }
+    protected
 }

@@ -173,7 +173,6 @@ some-marked row i small some =
     let w = getD row i 0 in
     (i * 64 + trailingZeros 64 w, word-marked row i _ (word-here (word-begun w (i * 64) small) some) .1)
 
--- of 1 the lowest digit is set alone
 -- a row with v marked too, as the machine stores it
 pub with-mark : (row : List ℕ) (v : ℕ) → v / 64 < length row → (u : ℕ) → marked (set row (v / 64) (bitOr (getD row (v / 64) 0) (1 * 2 ^ (v % 64) % 2 ^ 64))) u ≡ (marked row u || eqb u v)
 with-mark row v l u =

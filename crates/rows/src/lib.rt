@@ -2,7 +2,7 @@
 ghost use mathlib.Core.Path.{_≡_};
 ghost use Prim.Native.Nat.{_<_};
 ghost use lib.ListN.{length};
-ghost use Rattle.rows.specs.Rows.{marked, With, Linked, Differ, Minus, NoneMarked, Meet, locationsMax, marksMax, rowWords};
+ghost use Rattle.rows.specs.Rows.{marked, With, Linked, Differ, Minus, NoneMarked, Meet, marksMax, rowWords};
 
 // The slots that rows have a place for.
 pub const SLOTS: usize = 240;
@@ -35,8 +35,8 @@ pub fn add(row: &mut [u64; WORDS], v: usize)
 }
 
 // Row a gets the mark b: a link from a to b. A second mark of the same link changes nothing.
-pub fn mark(rows: &mut [[u64; WORDS]; LOCATIONS], a: usize, b: usize)
-    requires { ⌜ (length (now rows) ≡ locationsMax) × (a < locationsMax) × (b < marksMax) ⌝ }
+pub fn mark(rows: &mut [[u64; WORDS]], a: usize, b: usize)
+    requires { ⌜ (a < length (now rows)) × (b < marksMax) ⌝ }
     ensures { λ _. ⌜ Linked (now (rows .entry)) a b (now (rows .exit)) ⌝ }
 {
     add(&mut rows[a], b);

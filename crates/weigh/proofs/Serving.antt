@@ -3,28 +3,33 @@
 use mathlib.Core.Path.{_≡_, refl, sym, ap, ap₂, _∙_, subst, subst₂, fun-ext}
 use mathlib.Core.Bool.{Bool, true, false, not, _&&_, _||_}
 use mathlib.Core.List.{List, [], map}
-use Prim.Native.Nat.{ℕ, zero, suc, _+_, _*_}
+use Prim.Native.Nat.{ℕ, zero, suc, _+_, _*_, _≤_}
 use native.Mathlib.Omega.{arith}
 use borrow.Author.Tests.{lt-leb}
 use lib.Dec.{T, T-not, leb, eqb·suc-zero}
-use lib.ListN.{getD}
+use lib.ListN.{length, getD}
 use Rattle.lists.specs.Lists.{range, on, sum, any}
 use Rattle.lists.proofs.Tests.{and-T}
-use Rattle.rows.specs.Rows.{marked, linkedIn, Meet, Minus}
+use Rattle.rows.specs.Rows.{marked, linkedIn, Meet, Minus, locationsMax}
 use Rattle.graph.specs.Held.{heldIn, SlotsOnly}
 use Rattle.graph.specs.Steps.{Walked}
-use Rattle.picture.specs.Picture.{Picture, endpointOf}
+use Rattle.picture.specs.Layout.{endpointsMax}
+use Rattle.picture.specs.declared.Header.{Header}
+use Rattle.picture.specs.Picture.{Picture, pictureOf, endpointOf}
+use Rattle.picture.specs.Inner.{Read}
+use Rattle.picture.proofs.Facts.{read-limited}
 use Rattle.network.specs.Words.{endpointCount, inBlock, isHeld, heldWithout, joins}
 use Rattle.network.specs.Tests.{marks, served, cut, weightWhere, servedWeight, weighed}
 use Rattle.network.specs.Rows.{RowsOf, SlotRowsOf, EndpointsOf, BlockRow}
 use Rattle.network.proofs.Named.{Named}
 use Rattle.network.proofs.Service.{marked-served, served-marked}
-use Rattle.weigh.specs.Sums.{Meets, LostBetween, weightBetween, markBetween}
+use Rattle.network.proofs.Weights.{weight-small}
+use Rattle.weigh.specs.Sums.{Small, Meets, LostBetween, weightBetween, markBetween}
 
 -- ---- the walk
 
 -- a walk over rows that say what the picture says is a walk over the picture
-pub walked-over : (p : Picture) (held : ℕ → Bool) (table : List (List ℕ)) (row : List ℕ) (reaches : ℕ → Bool) (parent depth : List ℕ) → RowsOf (joins (p .links)) table → ((v : ℕ) → heldIn row v ≡ held v)
+pub walked-over : (p : Picture) (held : ℕ → Bool) (table : List (List ℕ)) (row : List ℕ) (reaches : ℕ → Bool) (parent depth : List ℕ) → RowsOf locationsMax (joins (p .links)) table → ((v : ℕ) → heldIn row v ≡ held v)
     → Walked (linkedIn table) (heldIn row) reaches parent depth → Walked (joins (p .links)) held reaches parent depth
 walked-over p held table row reaches parent depth t h w =
     subst₂ (λ (l : ℕ → ℕ → Bool) (k : ℕ → Bool). Walked l k reaches parent depth) (fun-ext (λ a. fun-ext (λ b. t .same a b))) (fun-ext h) w
@@ -47,7 +52,7 @@ module _ (p : Picture) (b : ℕ) (holding nearby block left : List ℕ) (s : Slo
 -- ---- service
 
 -- an endpoint is served exactly where its row has a mark in common with the row of what is reached
-pub serving : (p : Picture) (held : ℕ → Bool) (table : List (List ℕ)) (row parent depth : List ℕ) → Named p → RowsOf (λ c a. joins (p .serviceLinks) a c) table
+pub serving : (p : Picture) (held : ℕ → Bool) (table : List (List ℕ)) (row parent depth : List ℕ) → Named p → RowsOf (suc endpointsMax) (λ c a. joins (p .serviceLinks) a c) table
     → Walked (joins (p .links)) held (marked row) parent depth → Meets table row (served p (marks p held))
 unfolding linkedIn
 serving p held table row parent depth n t w = record { meet = meet }
@@ -67,6 +72,11 @@ pub none-served : (table : List (List ℕ)) (row : List ℕ) → ((v : ℕ) → 
 none-served table row n = record { meet = λ c. record { common = λ t. absurd t; apart = λ t v a b. n v b } }
 
 -- ---- the sums
+
+-- the rows of an accepted picture are as the sums need them
+pub sums-ready : (bs : List ℕ) (h : Header) → Read bs h → {serves : ℕ → ℕ → Bool} {table : List (List ℕ)} {weights guarded : List ℕ} → RowsOf (suc endpointsMax) serves table
+    → EndpointsOf (pictureOf bs) weights guarded → Small weights × (length table ≡ suc endpointsMax) × (h .endpoints ≤ endpointsMax)
+sums-ready bs h r t e = (record { many = e .many; weight = λ c. rw (e .weight c) (weight-small bs c) }, t .many, read-limited bs h r .counts .endpoints-most)
 
 module _ (p : Picture) (weights guarded : List ℕ) (e : EndpointsOf p weights guarded) (d : ℕ) (many : d ≡ endpointCount p) (f g : ℕ → Bool) where
   pub between-weight : weightBetween weights d f g ≡ weightWhere p (λ c. f c && not (g c))
@@ -89,7 +99,7 @@ all-served p f = ap (weightWhere p) (fun-ext (λ c. whole (f c)))
 
 -- ---- what weighing gives
 
-module _ (p : Picture) (table : List (List ℕ)) (weights guarded : List ℕ) (d : ℕ) (named : Named p) (t : RowsOf (λ c a. joins (p .serviceLinks) a c) table) (e : EndpointsOf p weights guarded)
+module _ (p : Picture) (table : List (List ℕ)) (weights guarded : List ℕ) (d : ℕ) (named : Named p) (t : RowsOf (suc endpointsMax) (λ c a. joins (p .serviceLinks) a c) table) (e : EndpointsOf p weights guarded)
     (many : d ≡ endpointCount p) (row parent depth : List ℕ) (now : Walked (joins (p .links)) (isHeld p) (marked row) parent depth) where
   pub served-value : (none : List ℕ) (w m : ℕ) → ((v : ℕ) → ¬ T (marked none v)) → LostBetween table weights guarded d row none w m → w ≡ servedWeight p
   unfolding servedWeight

@@ -2,9 +2,9 @@
 ghost use mathlib.Core.Path.{_≡_};
 ghost use mathlib.Core.Bool.{_&&_};
 ghost use mathlib.Core.List.{List};
-ghost use Prim.Native.Nat.{ℕ, _≤_, _<_};
+ghost use Prim.Native.Nat.{ℕ, suc, _≤_, _<_};
 ghost use lib.ListN.{length};
-ghost use Rattle.rows.specs.Rows.{marked, Minus, locationsMax, marksMax};
+ghost use Rattle.rows.specs.Rows.{marked, Minus, marksMax};
 ghost use Rattle.picture.specs.Picture.{pictureOf};
 ghost use Rattle.picture.specs.Inner.{Read};
 ghost use Rattle.picture.specs.Layout.{endpointsMax};
@@ -62,14 +62,14 @@ fn is_lost_protected(lost: bool, protected: &[u64; WORDS], c: usize) -> bool
 
 // The endpoints that the locations of `before` serve and those of `after` do not.
 pub fn lost_between(
-    services: &[[u64; WORDS]; LOCATIONS],
+    services: &[[u64; WORDS]; ENDPOINTS],
     weights: &[u32; ENDPOINTS],
     protected: [u64; WORDS],
     d: usize,
     before: [u64; WORDS],
     after: [u64; WORDS],
 ) -> Lost
-    requires { ⌜ Small (now weights) × (length (now services) ≡ locationsMax) × (d ≤ endpointsMax) ⌝ }
+    requires { ⌜ Small (now weights) × (length (now services) ≡ suc endpointsMax) × (d ≤ endpointsMax) ⌝ }
     ensures { λ r. ⌜ LostBetween (now (services .entry)) (now (weights .entry)) protected d before after (r .weight) (r .mark) ⌝ }
 {
     let gone = rows::minus(before, after);
@@ -97,16 +97,17 @@ pub fn weigh_block(s: &[u8], h: Header, b: usize) -> Weights
 {
     let size = h.block_size;
     let d = h.endpoints;
-    let links = network::link_rows(s, h);
-    let services = network::service_link_rows(s, h);
+    let mut links = [[0u64; WORDS]; LOCATIONS];
+    network::link_rows(s, h, &mut links);
+    let mut services = [[0u64; WORDS]; ENDPOINTS];
+    network::service_link_rows(s, h, &mut services);
+    let mut weights = [0u32; ENDPOINTS];
+    let protected = network::endpoint_rows(s, h, &mut weights);
     let slots = network::slot_rows(s, h);
-    let ends = network::endpoint_rows(s, h);
     let held = slots.held;
     let left = rows::minus(held, network::block_row(size, b));
     let before = graph::walk(links, held);
     let after = graph::walk(links, left);
-    let weights = ends.weights;
-    let protected = ends.protected;
     let reached = before.reached;
     let still = after.reached;
     let none = [0u64; WORDS];

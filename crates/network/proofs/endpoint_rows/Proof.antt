@@ -26,10 +26,10 @@ record Loop (s : List ℕ) (h : Header) (weights guarded : List ℕ) (c : ℕ) :
   pub protected : Scanned (λ c. endpointOf (pictureOf s) c .protected) guarded c
 
 abbrev Inv-loop : tie.InvT-loop
-Inv-loop s h d weights₀ protected₀ c₀ weights protected c = Loop s h weights protected c
+Inv-loop s h weights₀ d protected₀ c₀ weights protected c = Loop s h weights protected c
 
 abbrev μ-loop : tie.MeasureT-loop
-μ-loop s h d weights₀ protected₀ c₀ weights protected c = h .endpoints + 1 - c
+μ-loop s h weights₀ d protected₀ c₀ weights protected c = h .endpoints + 1 - c
 
 few : (c : tie.At-loop Inv-loop μ-loop) → c .before .before .args .h .endpoints ≤ endpointsMax
 few c = read-limited _ _ (c .loop .inv .read) .counts .endpoints-most
@@ -54,7 +54,13 @@ protected-next c =
 
 loop-holds : tie.Need-loop-holds Inv-loop μ-loop
 loop-holds c =
-    record { some = omega arith; within = omega arith; read = c .before .pre; weighed = weighing-begun _; protected = scanned-begun _ rowWords }
+    record {
+      some = omega arith;
+      within = omega arith;
+      read = c .before .pre .0;
+      weighed = rw (c .before .pre .1) (weighing-begun _);
+      protected = scanned-begun _ rowWords;
+    }
 
 endpoint-weight-requires : tie.Need-endpoint-weight-requires Inv-loop μ-loop
 endpoint-weight-requires c κs = (read-limited _ _ (c .before .loop .inv .read), c .before .loop .inv .some, omega arith)
@@ -65,8 +71,8 @@ cast-weights c = omega (arith, weight c, weight-small (c .before .before .before
 mul-weights : tie.Need-mul-weights Inv-loop μ-loop
 mul-weights c = omega (arith, few (c .before .before))
 
-array-write-weights : tie.Need-array-write-weights Inv-loop μ-loop
-array-write-weights c = omega (arith, few (c .before .before))
+element-write-weights : tie.Need-element-write-weights Inv-loop μ-loop
+element-write-weights c = omega (arith, few (c .before .before))
 
 endpoint-protected-requires : tie.Need-endpoint-protected-requires Inv-loop μ-loop
 endpoint-protected-requires c κs = (read-limited _ _ (c .before .before .loop .inv .read), c .before .before .loop .inv .some, omega arith)
@@ -106,7 +112,7 @@ endpoint-rows-spec =
     endpoint-weight-requires
     cast-weights
     mul-weights
-    array-write-weights
+    element-write-weights
     endpoint-protected-requires
     add-requires
     add-c

@@ -3,7 +3,7 @@ use mathlib.Core.Path.{sym, ap, _∙_}
 use mathlib.Core.Bool.{Bool, _&&_}
 use Rattle.picture.specs.Picture.{Picture, slotOf, pictureOf}
 use Rattle.picture.proofs.Facts.{read-picture, read-limited}
-use Rattle.network.specs.Rows.{isNearHeld}
+use Rattle.network.specs.Tests.{isNearHeld}
 use Rattle.network.proofs.is_near_held.Statement.{statement}
 use Rattle.network.proofs.is_near_held.Tie as tie
 

@@ -16,7 +16,7 @@ use Rattle.picture.specs.Picture.{Picture, pictureOf, pictureWith}
 use Rattle.picture.specs.Rules.{noLink}
 use Rattle.picture.proofs.Facts.{read-picture, read-sizes, read-limited, read-links, read-services, read-links-length, read-services-length}
 use Rattle.network.specs.Words.{joins}
-use Rattle.network.specs.Rows.{RowsOf, countOf, tableOf}
+use Rattle.network.specs.Rows.{RowsOf, countOf, rowsFor, tableOf}
 use Rattle.network.proofs.Making.{Linking, linking-begun, linking-next, linking-ended}
 use borrow.Author.Needs.{needs}
 use Rattle.network.proofs.mark_rows.Statement.{statement}
@@ -38,7 +38,7 @@ marksOf false p = p .links
 marksOf true p = map turned (p .serviceLinks)
 
 -- once all are there, the table is the one that is asked for
-all-marked : (b : Bool) (p : Picture) (table : List (List ℕ)) → RowsOf (joins (marksOf b p)) table → RowsOf (tableOf b p) table
+all-marked : (b : Bool) (p : Picture) (table : List (List ℕ)) → RowsOf (rowsFor b) (joins (marksOf b p)) table → RowsOf (rowsFor b) (tableOf b p) table
 all-marked false p table r = r
 all-marked true p table r = record { many = r .many; same = λ c a. r .same c a ∙ joins-turned (p .serviceLinks) c a }
 
@@ -56,13 +56,15 @@ module _ (s : List ℕ) (h : Header) (r : Read s h) where
   service b i l t e = rw (t, sym (read-picture s h r)) (ap turned e ∙ sym (List·getD-map turned (pictureWith edition1 h s .serviceLinks) i noLink))
 
 abbrev Inv-loop : tie.InvT-loop
-Inv-loop s h count services table₀ i₀ table i = Linking (marksOf services (pictureOf s)) table i
+Inv-loop s h count services table₀ i₀ table i = Linking (rowsFor services) (marksOf services (pictureOf s)) table i
 
 abbrev μ-loop : tie.MeasureT-loop
 μ-loop s h count services table₀ i₀ table i = count - i
 
 loop-holds : tie.Need-loop-holds Inv-loop μ-loop
-loop-holds c = let a = c .before .args in linking-begun (marksOf (a .services) (pictureOf (a .s .now)))
+loop-holds c =
+    let a = c .before .args in
+    linking-begun _ (marksOf (a .services) (pictureOf (a .s .now))) _ (c .before .pre .2)
 
 nth-service-link-requires : tie.Need-nth-service-link-requires Inv-loop μ-loop
 nth-service-link-requires c κs =
@@ -78,8 +80,9 @@ mark-requires c κs =
     let k = read-services _ _ (p .0) in
     let z = read-sizes _ _ (p .0) in
     let n = read-limited _ _ (p .0) in
+    let many = l .inv .many ∙ ap rowsFor (c .before .before .if1 .taken) in
     let small : l .i < length (pictureOf (a .s .now) .serviceLinks) = omega (arith, read-services-length _ _ (p .0), nth-service-link-requires (c .before .before) κs .1) in
-    rw (c .before .nth-service-link .ensures, read-picture _ _ (p .0)) (l .inv .many, omega (arith, k .endpoint-most (l .i) small), omega (arith, k .location (l .i) small))
+    rw (c .before .nth-service-link .ensures, read-picture _ _ (p .0)) (omega (arith, many, n .counts .endpoints-most, k .endpoint-most (l .i) small), omega (arith, k .location (l .i) small))
 
 nth-link-requires : tie.Need-nth-link-requires Inv-loop μ-loop
 nth-link-requires c κs =
@@ -94,8 +97,9 @@ mark-requires-2 c κs =
     let l = c .before .before .before .before .loop in
     let k = read-links _ _ (p .0) in
     let z = read-sizes _ _ (p .0) in
+    let many = l .inv .many ∙ ap rowsFor (c .before .before .if1 .left) in
     let small : l .i < length (pictureOf (a .s .now) .links) = omega (arith, read-links-length _ _ (p .0), nth-link-requires (c .before .before) κs .1) in
-    rw (c .before .nth-link .ensures, read-picture _ _ (p .0)) (l .inv .many, omega (arith, k .from (l .i) small), omega (arith, k .to (l .i) small))
+    rw (c .before .nth-link .ensures, read-picture _ _ (p .0)) (omega (arith, many, k .from (l .i) small), omega (arith, k .to (l .i) small))
 
 add-i : tie.Need-add-i Inv-loop μ-loop
 add-i c = search needs
@@ -111,16 +115,19 @@ loop-again c =
     let marks = marksOf (a .services) (pictureOf (a .s .now)) in
     let small : l .i < length marks = omega (arith, long _ _ (p .0) (a .services), p .1) in
     ⊎-elim
-    (λ w. rw (w .4) (linking-next marks (l .table) _ (l .i) (turned (w .1 .result)) (l .inv) small (service _ _ (p .0) _ _ _ (w .0 .taken) (w .1 .ensures)) (w .3 .ensures)))
-    (λ w. rw (w .4) (linking-next marks (l .table) _ (l .i) (w .1 .result) (l .inv) small (link _ _ (p .0) _ _ _ (w .0 .left) (w .1 .ensures)) (w .3 .ensures)))
+    (λ w. rw (w .5) (linking-next _ marks (l .table) _ (l .i) (turned (w .1 .result)) (l .inv) small (service _ _ (p .0) _ _ _ (w .0 .taken) (w .1 .ensures)) (w .3 .ensures)))
+    (λ w. rw (w .5) (linking-next _ marks (l .table) _ (l .i) (w .1 .result) (l .inv) small (link _ _ (p .0) _ _ _ (w .0 .left) (w .1 .ensures)) (w .3 .ensures)))
     (c .if1 .came)
+
+same-length : tie.Need-same-length Inv-loop μ-loop
+same-length c = c .before .loop .inv .many ∙ sym (c .before .before .before .pre .2 .many)
 
 returns : tie.Need-returns Inv-loop μ-loop
 returns c =
     let a = c .before .before .before .args in
     let p = c .before .before .before .pre in
     let l = c .before .loop in
-    all-marked (a .services) (pictureOf (a .s .now)) (l .table) (linking-ended _ (l .table) (l .i) (l .inv) (omega (arith, long _ _ (p .0) (a .services), p .1)))
+    all-marked (a .services) (pictureOf (a .s .now)) (l .table) (linking-ended _ _ (l .table) (l .i) (l .inv) (omega (arith, long _ _ (p .0) (a .services), p .1)))
 
 pub mark-rows-spec : {M : Type 1} → statement M
 mark-rows-spec =
@@ -136,4 +143,5 @@ mark-rows-spec =
     add-i
     loop-less
     loop-again
+    same-length
     returns)

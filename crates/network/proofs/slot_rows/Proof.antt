@@ -10,7 +10,7 @@ use Rattle.picture.specs.Inner.{Read}
 use Rattle.picture.specs.Picture.{pictureOf}
 use Rattle.picture.proofs.Facts.{read-limited, read-slots-length}
 use Rattle.network.specs.Words.{isHeld}
-use Rattle.network.specs.Rows.{isNearHeld}
+use Rattle.network.specs.Tests.{isNearHeld}
 use Rattle.network.proofs.Slots.{slots-looked}
 use Rattle.network.proofs.Making.{Scanned, scanned-begun, scanned-hit, scanned-miss}
 use Rattle.network.proofs.slot_rows.Statement.{statement}

@@ -14,8 +14,11 @@ index-1-add c = search needs
 add-requires : tie.Need-add-requires
 add-requires c κs = search needs
 
+same-length : tie.Need-same-length
+same-length c = search needs
+
 returns : tie.Need-returns
 returns c = with-link _ _ _ _ (omega arith) (c .add .ensures)
 
 pub mark-spec : {M : Type 1} → statement M
-mark-spec = tie.close (tie.spec mul-add index-1-add add-requires returns)
+mark-spec = tie.close (tie.spec mul-add index-1-add add-requires same-length returns)

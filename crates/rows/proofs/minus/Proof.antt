@@ -49,11 +49,9 @@ loop-less : tie.Need-loop-less Inv-loop μ-loop
 loop-less c = search needs
 
 loop-again : tie.Need-loop-again Inv-loop μ-loop
-unfolding lessWord
 loop-again c = made-next lessWord rowWords _ _ _ (c .before .loop .i) (c .before .loop .inv) (omega arith)
 
 returns : tie.Need-returns Inv-loop μ-loop
-unfolding lessWord
 returns c =
     let l = c .before .loop in
     let e : l .i ≡ rowWords = omega arith in

@@ -4,11 +4,11 @@ use native.Mathlib.Omega.{arith}
 use mathlib.Core.Bool.{Bool, not, _&&_}
 use mathlib.Core.List.{List}
 use mathlib.Core.Logic.{⊎-elim}
-use Prim.Native.Nat.{ℕ, _+_, _-_, _≤_}
+use Prim.Native.Nat.{ℕ, suc, _+_, _-_, _≤_}
 use native.Mathlib.Nat.{add-zero, zero-add}
 use lib.ListN.{length, getD}
 use Rattle.lists.specs.Lists.{on}
-use Rattle.rows.specs.Rows.{marked, Minus, locationsMax}
+use Rattle.rows.specs.Rows.{marked, Minus}
 use Rattle.picture.specs.Layout.{endpointsMax}
 use Rattle.weigh.specs.Sums.{Small}
 use Rattle.weigh.proofs.Picking.{Picking, picking-begun, picking-next, picking-ended}
@@ -19,7 +19,7 @@ use Rattle.weigh.proofs.lost_between.Tie as tie
 record Loop (services : List (List ℕ)) (weights protected : List ℕ) (d : ℕ) (gone after : List ℕ) (weight mark c : ℕ) : Type 0 where
   pub within : c ≤ d + 1
   pub few : d ≤ endpointsMax
-  pub many : length services ≡ locationsMax
+  pub many : length services ≡ suc endpointsMax
   pub small : Small weights
   pub picking : (before : List ℕ) → Minus before after gone → Picking services weights protected before after weight mark c
 
