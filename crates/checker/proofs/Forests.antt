@@ -23,7 +23,7 @@ use Rattle.network.specs.Rows.{RowsOf}
 use Rattle.network.proofs.Named.{Named, joins-at, at-joins}
 use Rattle.network.proofs.Making.{Scanned, scanned-begun, scanned-hit, scanned-miss}
 use Rattle.evidence.specs.Checks.{isIn, nodeRight, linkRight, forestRight}
-use Rattle.checker.specs.Following.{nodeTest}
+use Rattle.checker.specs.Following.{nodeRight}
 use Rattle.lists.proofs.Alls.{is-true, range-all, range-wrong, all-wrong}
 use Rattle.lists.proofs.Every.{at-all}
 use Rattle.checker.proofs.Nodes.{origin-in, slot-in, above-in}
@@ -32,15 +32,15 @@ use Rattle.checker.proofs.Nodes.{origin-in, slot-in, above-in}
 
 -- the slots below v keep their rules, and the row marks those of them that are in the forest
 pub record Followed (linked : ℕ → ℕ → Bool) (held : ℕ → Bool) (es : List Node) (row : List ℕ) (v : ℕ) : Type 0 where
-  pub right : (u : ℕ) → 1 ≤ u → u < v → nodeTest linked held es u ≡ true
+  pub right : (u : ℕ) → 1 ≤ u → u < v → nodeRight linked held es u ≡ true
   pub scanned : Scanned (isIn es) row v
 
 module _ (linked : ℕ → ℕ → Bool) (held : ℕ → Bool) (es : List Node) where
   pub followed-begun : (n : ℕ) → Followed linked held es (replicate n 0) 1
   followed-begun n = record { right = λ u l h. absurd (omega arith); scanned = scanned-begun (isIn es) n }
 
-  module _ (row : List ℕ) (v : ℕ) (l : 1 ≤ v) (f : Followed linked held es row v) (r : nodeTest linked held es v ≡ true) where
-    more : (u : ℕ) → 1 ≤ u → u < v + 1 → nodeTest linked held es u ≡ true
+  module _ (row : List ℕ) (v : ℕ) (l : 1 ≤ v) (f : Followed linked held es row v) (r : nodeRight linked held es v ≡ true) where
+    more : (u : ℕ) → 1 ≤ u → u < v + 1 → nodeRight linked held es u ≡ true
     more u s h = by-cases (ℕ-discrete u v) (λ e. rw e r) (λ n. f .right u s (omega arith))
 
     -- the slot at hand keeps its rule, and is in the forest or is not
@@ -78,14 +78,14 @@ module _ (table : List (List ℕ)) (marks others : List ℕ) where
 module _ (p : Picture) (named : Named p) (held : ℕ → Bool) (table : List (List ℕ)) (t : RowsOf (joins (p .links)) table) (left : List ℕ) (h : (v : ℕ) → heldIn left v ≡ held v)
     (es : List Node) (len : length es ≡ slotCount p) where
   -- the test over the rows is the test over the picture
-  pub test-right : (v : ℕ) → nodeTest (linkedIn table) (heldIn left) es v ≡ nodeRight p held es v
-  unfolding nodeTest nodeRight
-  test-right v = ap₂ (λ (l : ℕ → ℕ → Bool) (k : ℕ → Bool). nodeTest l k es v) (fun-ext (λ a. fun-ext (λ b. t .same a b))) (fun-ext h)
+  pub test-right : (v : ℕ) → nodeRight (linkedIn table) (heldIn left) es v ≡ nodeRight (joins (p .links)) held es v
+  unfolding nodeRight nodeRight
+  test-right v = ap₂ (λ (l : ℕ → ℕ → Bool) (k : ℕ → Bool). nodeRight l k es v) (fun-ext (λ a. fun-ext (λ b. t .same a b))) (fun-ext h)
 
   -- a slot breaks its rule
-  pub node-wrong : (v : ℕ) → 1 ≤ v → v ≤ slotCount p → nodeTest (linkedIn table) (heldIn left) es v ≡ false → forestRight p held es ≡ false
+  pub node-wrong : (v : ℕ) → 1 ≤ v → v ≤ slotCount p → nodeRight (linkedIn table) (heldIn left) es v ≡ false → forestRight p held es ≡ false
   unfolding forestRight
-  node-wrong v l m e = ap (λ (b : Bool). b && all (linkRight held es) (p .links)) (range-wrong (nodeRight p held es) 1 (slotCount p) v l (omega arith) (sym (test-right v) ∙ e))
+  node-wrong v l m e = ap (λ (b : Bool). b && all (linkRight held es) (p .links)) (range-wrong (nodeRight (joins (p .links)) held es) 1 (slotCount p) v l (omega arith) (sym (test-right v) ∙ e))
 
   module _ (row inner outer : List ℕ) (w : With row 0 inner) (m : Minus left inner outer) (n : ℕ) (many : n ≡ slotCount p) (f : Followed (linkedIn table) (heldIn left) es row (n + 1)) where
     -- the marks are what is in the forest
@@ -127,15 +127,15 @@ module _ (p : Picture) (named : Named p) (held : ℕ → Bool) (table : List (Li
         let leaves : T (isIn es (l .from) && (not (isIn es (l .to)) && held (l .to))) =
         T-and (isIn es (l .from)) _ (rw (j .from) (subst T (inner-in a) s)) (T-and (not (isIn es (l .to))) (held (l .to)) (rw (j .to) (o .1)) (rw (j .to) (o .0))) in
         let wrong : linkRight held es l ≡ false = is-false (linkRight held es l) (λ q. T-not (isIn es (l .from) && (not (isIn es (l .to)) && held (l .to))) q leaves) in
-        is-false _ (λ q. subst T (all-wrong noLink (linkRight held es) (p .links) (j .at) (j .within) wrong) (and-T (all (nodeRight p held es) (range 1 (slotCount p))) _ q .1))
+        is-false _ (λ q. subst T (all-wrong noLink (linkRight held es) (p .links) (j .at) (j .within) wrong) (and-T (all (nodeRight (joins (p .links)) held es) (range 1 (slotCount p))) _ q .1))
 
     -- none does
     pub forest-passed : Closed (linkedIn table) inner outer (n + 1) → forestRight p held es ≡ true
     unfolding forestRight linkRight
     forest-passed c =
         is-true _
-        (T-and (all (nodeRight p held es) (range 1 (slotCount p))) (all (linkRight held es) (p .links))
-        (range-all (nodeRight p held es) 1 (slotCount p) (λ u l s. sym (test-right u) ∙ f .right u l (omega arith)))
+        (T-and (all (nodeRight (joins (p .links)) held es) (range 1 (slotCount p))) (all (linkRight held es) (p .links))
+        (range-all (nodeRight (joins (p .links)) held es) 1 (slotCount p) (λ u l s. sym (test-right u) ∙ f .right u l (omega arith)))
         (at-all noLink (linkRight held es) (p .links)
         (λ i s.
         let l = getD (p .links) i noLink in

@@ -24,7 +24,7 @@ use Rattle.network.specs.Rows.{RowsOf, SlotRowsOf, EndpointsOf}
 use Rattle.network.proofs.Named.{Named}
 use Rattle.weigh.specs.Sums.{LostBetween}
 use Rattle.evidence.specs.Checks.{forestIn, forestRight, formRight}
-use Rattle.checker.specs.Following.{nodeTest, LeftIn, statedTest, partFault, partsFault}
+use Rattle.checker.specs.Following.{nodeRight, LeftIn, statedTest, partFault, partsFault}
 use Rattle.checker.proofs.Nodes.{forest-length}
 use Rattle.checker.proofs.Forests.{Followed, Closed, node-wrong, inner-in, link-wrong, forest-passed}
 use Rattle.checker.proofs.Reaching.{Reaches, passed-reaches}
@@ -97,7 +97,7 @@ module _ {bs ev held : List ℕ} {count n size d : ℕ} {links services : List (
     wrong e = stopped (λ z. absurd (omega arith)) (part-14 bs ev k most (ap (forestRight (pictureOf bs) (heldAt bs ev k)) (sym here) ∙ e))
 
     -- a slot breaks its rule
-    pub going-node : (v : ℕ) → 1 ≤ v → v ≤ n → nodeTest (linkedIn links) (heldIn left) (forestIn edition1 n ev (72 + k * (40 + n * 16))) v ≡ false → 14 ≡ partsFault bs ev
+    pub going-node : (v : ℕ) → 1 ≤ v → v ≤ n → nodeRight (linkedIn links) (heldIn left) (forestIn edition1 n ev (72 + k * (40 + n * 16))) v ≡ false → 14 ≡ partsFault bs ev
     unfolding es
     going-node v a b e = wrong (node-wrong (pictureOf bs) (t .named) (heldAt bs ev k) links (t .link-rows) left holds es len v a (omega (arith, t .many)) e)
 

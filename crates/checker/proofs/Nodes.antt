@@ -18,7 +18,7 @@ use Rattle.picture.specs.Layout.{edition1}
 use Rattle.picture.proofs.Starts.{field-second, length-rows, item-row}
 use Rattle.evidence.specs.Layout.{nodeWidths}
 use Rattle.evidence.specs.Checks.{nodeAt, forestIn, isIn}
-use Rattle.checker.specs.Following.{nodeFrom, nodeTest}
+use Rattle.checker.specs.Following.{nodeFrom, nodeRight}
 
 -- ---- the nodes
 
@@ -74,35 +74,35 @@ module _ (linked : ℕ → ℕ → Bool) (held : ℕ → Bool) (es : List Node) 
   ruled : Bool
   ruled = held v && (isIn es parent && (eqb (nodeOf es parent .depth + 1) depth && linked parent v))
 
-  whole : cond (eqb depth 0) (eqb parent 0) ruled ≡ nodeTest linked held es v
-  unfolding ruled nodeTest
+  whole : cond (eqb depth 0) (eqb parent 0) ruled ≡ nodeRight linked held es v
+  unfolding ruled nodeRight
   whole = rw (ep, ed)
 
-  pub node-outside : depth ≡ 0 → eqb parent 0 ≡ nodeTest linked held es v
+  pub node-outside : depth ≡ 0 → eqb parent 0 ≡ nodeRight linked held es v
   node-outside z = sym (ap (λ (b : Bool). cond b (eqb parent 0) ruled) (eq-eqb depth 0 z)) ∙ whole
 
   module _ (deep : depth ≢ 0) where
-    deeper : ruled ≡ nodeTest linked held es v
+    deeper : ruled ≡ nodeRight linked held es v
     deeper = sym (ap (λ (b : Bool). cond b (eqb parent 0) ruled) (ne-eqb depth 0 deep)) ∙ whole
 
-    pub node-not-held : held v ≡ false → false ≡ nodeTest linked held es v
+    pub node-not-held : held v ≡ false → false ≡ nodeRight linked held es v
     unfolding ruled
     node-not-held h = sym (ap (λ (b : Bool). b && (isIn es parent && (eqb (nodeOf es parent .depth + 1) depth && linked parent v))) h) ∙ deeper
 
-    pub node-parent-out : isIn es parent ≡ false → false ≡ nodeTest linked held es v
+    pub node-parent-out : isIn es parent ≡ false → false ≡ nodeRight linked held es v
     unfolding ruled
     node-parent-out i = sym (ap (λ (b : Bool). held v && (b && (eqb (nodeOf es parent .depth + 1) depth && linked parent v))) i ∙ and-false (held v)) ∙ deeper
 
-    pub node-not-linked : linked parent v ≡ false → false ≡ nodeTest linked held es v
+    pub node-not-linked : linked parent v ≡ false → false ≡ nodeRight linked held es v
     unfolding ruled
     node-not-linked l =
         sym (ap (λ (b : Bool). held v && (isIn es parent && (eqb (nodeOf es parent .depth + 1) depth && b))) l ∙ last-false (held v) (isIn es parent) (eqb (nodeOf es parent .depth + 1) depth)) ∙ deeper
 
     -- held, linked, and its parent in the forest: the depths are compared
-    pub node-depths : held v ≡ true → isIn es parent ≡ true → linked parent v ≡ true → eqb (nodeOf es parent .depth + 1) depth ≡ nodeTest linked held es v
+    pub node-depths : held v ≡ true → isIn es parent ≡ true → linked parent v ≡ true → eqb (nodeOf es parent .depth + 1) depth ≡ nodeRight linked held es v
     unfolding ruled
     node-depths h i l = sym (rw (h, i, l) (and-true (eqb (nodeOf es parent .depth + 1) depth))) ∙ deeper
 
     -- the same of a parent that is the origin
-    pub node-root : held v ≡ true → parent ≡ 0 → linked parent v ≡ true → eqb depth 1 ≡ nodeTest linked held es v
+    pub node-root : held v ≡ true → parent ≡ 0 → linked parent v ≡ true → eqb depth 1 ≡ nodeRight linked held es v
     node-root h z l = eqb-swap depth 1 ∙ sym (rw (z, origin-depth)) ∙ node-depths h (rw z (origin-in es)) l

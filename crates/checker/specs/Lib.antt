@@ -1,4 +1,6 @@
--- The definitions that the contracts of `checker` cite.
+-- What must be believed: `Answers`, in the contracts of check and show, over the definitions of `evidence`. What serves inner contracts alone:
+-- `Form`, `Verdict`, `Forests`.
 pub mod Answers
-pub mod Following
-pub mod Forming
+pub mod Form
+pub mod Verdict
+pub mod Forests

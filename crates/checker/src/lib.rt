@@ -1,38 +1,28 @@
 // Checking evidence from anywhere against a picture. It follows the forests that the evidence brings and never searches for a chain.
 ghost use mathlib.Core.Path.{_≡_};
+ghost use mathlib.Core.Logic.{_≢_};
+ghost use mathlib.Core.List.{[]};
+ghost use Rattle.lists.specs.Lists.{outcome};
 ghost use Rattle.picture.specs.Inner.{Read};
 ghost use Rattle.evidence.specs.Checks.{checkFault};
 ghost use Rattle.evidence.specs.Calls.{shown, shownPart};
-ghost use Rattle.checker.specs.Answers.{checking, past};
+ghost use Rattle.checker.specs.Answers.{checking, checkingNumbers, past};
 
-mod faults;
-mod following;
-mod forming;
+mod forests;
+mod form;
+mod verdict;
 
-use evidence::BLOCK_AT;
-use evidence::BLOCK_BITS;
 use evidence::BYTE_BITS;
-use evidence::COUNT_AT;
-use evidence::COUNT_BITS;
-use evidence::NODE_BITS;
-use evidence::SECTION_BITS;
-use evidence::VERDICT_AT;
-use evidence::VERDICT_BITS;
-use faults::FORM;
-use faults::VERDICT;
+use evidence::Part;
 use picture::Header;
 use picture::Reading;
+use picture::refusals::FORM;
+use picture::refusals::VERDICT;
 
 // What check answers.
 pub enum Checking {
     Passed,
     Refused(u8),
-}
-
-// A part of the evidence, in bytes.
-struct Part {
-    start: usize,
-    size: usize,
 }
 
 // The number of the first fault in the evidence for an accepted picture, or 0.
@@ -45,17 +35,17 @@ fn evidence_fault(s: &[u8], h: Header, ev: &[u8]) -> u8
     let rows = network::slot_rows(s, h);
     let held = rows.held;
     let near = rows.near;
-    let f = forming::form_of(ev, n, size, n / size, near);
+    let f = form::form_of(ev, n, size, n / size, near);
     let right = f.right;
     let count = f.count;
     if !right {
         return FORM;
     }
-    let fault = following::parts_fault(s, h, ev, held, count);
+    let fault = forests::parts_fault(s, h, ev, held, count);
     if fault != 0 {
         return fault;
     }
-    if forming::verdict_right(ev, n, count) {
+    if verdict::verdict_right(ev, n, count) {
         return 0;
     }
     VERDICT
@@ -63,7 +53,9 @@ fn evidence_fault(s: &[u8], h: Header, ev: &[u8]) -> u8
 
 // Checks evidence from anywhere against a picture: passed, or refused with the number of the first fault.
 pub fn check(s: &[u8], ev: &[u8]) -> Checking
-    ensures { λ r. ⌜ r ≡ checking (now (s .entry)) (now (ev .entry)) ⌝ }
+    ensures answer { λ r. ⌜ r ≡ checking (now (s .entry)) (now (ev .entry)) ⌝ }
+    ensures numbers { λ r. ⌜ checkingNumbers r ≡ outcome (checkFault (now (s .entry)) (now (ev .entry))) [] ⌝ }
+    ensures refusals { λ r. ⌜ r ≢ Checking.Refused 0 ⌝ }
 {
     match picture::read(s) {
         Reading::Refused(number) => Checking::Refused(number),
@@ -79,7 +71,7 @@ pub fn check(s: &[u8], ev: &[u8]) -> Checking
 
 // The part that show gives: the chosen candidate's section, or the empty part where the check fails or the verdict is none.
 fn shown_part(s: &[u8], ev: &[u8]) -> Part
-    ensures { λ r. ⌜ (r .start ≡ shownPart (now (s .entry)) (now (ev .entry)) .start) × (r .size ≡ shownPart (now (s .entry)) (now (ev .entry)) .size) ⌝ }
+    ensures { λ r. ⌜ r ≡ shownPart (now (s .entry)) (now (ev .entry)) ⌝ }
 {
     match picture::read(s) {
         Reading::Refused(_) => Part { start: 0, size: 0 },
@@ -89,15 +81,14 @@ fn shown_part(s: &[u8], ev: &[u8]) -> Part
             if fault != 0 {
                 return Part { start: 0, size: 0 };
             }
-            if bits::field(ev, VERDICT_AT, VERDICT_BITS) != 1 {
+            let head = evidence::head_of(ev);
+            if head.verdict != 1 {
                 return Part { start: 0, size: 0 };
             }
-            let count = bits::field(ev, COUNT_AT, COUNT_BITS);
-            let b = bits::field(ev, BLOCK_AT, BLOCK_BITS);
-            let i = forming::sections_below(ev, n, count, b);
+            let i = verdict::section_named(ev, n, head.count, head.block);
             Part {
                 start: evidence::section_at(n, i) / BYTE_BITS,
-                size: (SECTION_BITS + n * NODE_BITS) / BYTE_BITS,
+                size: evidence::section_bits(n) / BYTE_BITS,
             }
         }
     }

@@ -44,7 +44,7 @@ module _ (p : Picture) (held : ℕ → Bool) (xs : List Node) where
       && (isIn xs (nodeOf xs v .parent)
       && (eqb (nodeOf xs (nodeOf xs v .parent) .depth + 1) (nodeOf xs v .depth) && joins (p .links) (nodeOf xs v .parent) v))
 
-  pub right-node : (v : ℕ) → T (nodeRight p held xs v) → NodeKept (joins (p .links)) held xs v
+  pub right-node : (v : ℕ) → T (nodeRight (joins (p .links)) held xs v) → NodeKept (joins (p .links)) held xs v
   unfolding nodeRight deepRight
   right-node v t = by-cases (ℕ-discrete (nodeOf xs v .depth) 0) flat deep
     where
@@ -58,7 +58,7 @@ module _ (p : Picture) (held : ℕ → Bool) (xs : List Node) where
           let w = and-T (eqb (nodeOf xs (nodeOf xs v .parent) .depth + 1) (nodeOf xs v .depth)) (joins (p .links) (nodeOf xs v .parent) v) (u .1) in
           inside d (s .0) (test-in xs (nodeOf xs v .parent) (u .0)) (eqb→eq _ _ (w .0)) (w .1)
 
-  pub node-right : (v : ℕ) → NodeKept (joins (p .links)) held xs v → T (nodeRight p held xs v)
+  pub node-right : (v : ℕ) → NodeKept (joins (p .links)) held xs v → T (nodeRight (joins (p .links)) held xs v)
   unfolding nodeRight
   node-right v (outside z o) = rw (eq-eqb _ _ z, eq-eqb _ _ o) tt
   node-right v (inside d h i e l) =
@@ -92,9 +92,9 @@ module _ (p : Picture) (held : ℕ → Bool) (xs : List Node) where
   pub right-kept : T (forestRight p held xs) → ForestKept (joins (p .links)) held (slotCount p) xs
   unfolding forestRight
   right-kept t =
-      let s = and-T (all (nodeRight p held xs) (range 1 (slotCount p))) (all (linkRight held xs) (p .links)) t in
+      let s = and-T (all (nodeRight (joins (p .links)) held xs) (range 1 (slotCount p))) (all (linkRight held xs) (p .links)) t in
       record {
-        nodes = λ v l m. right-node p held xs v (all-range (nodeRight p held xs) 1 (slotCount p) (s .0) v l (omega arith));
+        nodes = λ v l m. right-node p held xs v (all-range (nodeRight (joins (p .links)) held xs) 1 (slotCount p) (s .0) v l (omega arith));
         closed = λ a b j.
             let r = joins-at (p .links) a b j in
             let k = right-link held xs (getD (p .links) (r .at) noLink) (all-at (linkRight held xs) (p .links) (s .1) (r .at) (r .within) noLink) in
@@ -104,7 +104,7 @@ module _ (p : Picture) (held : ℕ → Bool) (xs : List Node) where
   pub kept-right : ForestKept (joins (p .links)) held (slotCount p) xs → T (forestRight p held xs)
   unfolding forestRight
   kept-right k =
-      T-and (all (nodeRight p held xs) (range 1 (slotCount p))) (all (linkRight held xs) (p .links))
-      (range-all (nodeRight p held xs) 1 (slotCount p) (λ v l m. node-right p held xs v (k .nodes v l (omega arith))))
+      T-and (all (nodeRight (joins (p .links)) held xs) (range 1 (slotCount p))) (all (linkRight held xs) (p .links))
+      (range-all (nodeRight (joins (p .links)) held xs) 1 (slotCount p) (λ v l m. node-right p held xs v (k .nodes v l (omega arith))))
       (at-all noLink (linkRight held xs) (p .links)
       (λ i h. link-right held xs (getD (p .links) i noLink) (k .closed _ _ (at-joins (record { at = i; within = h; from = refl; to = refl })))))

@@ -60,18 +60,18 @@ unfoldable pub isIn : List Node → ℕ → Bool
 isIn xs v = eqb v 0 || not (eqb (nodeOf xs v .depth) 0)
 
 -- depth 0 has parent 0; any other slot is held, and linked from a parent in the forest whose depth is one less
-unfoldable pub nodeRight : Picture → (ℕ → Bool) → List Node → ℕ → Bool
-nodeRight p held xs v =
+unfoldable pub nodeRight : (ℕ → ℕ → Bool) → (ℕ → Bool) → List Node → ℕ → Bool
+nodeRight linked held xs v =
     let x : Node = nodeOf xs v in
     cond (eqb (x .depth) 0) (eqb (x .parent) 0)
-    (held v && (isIn xs (x .parent) && (eqb (nodeOf xs (x .parent) .depth + 1) (x .depth) && joins (p .links) (x .parent) v)))
+    (held v && (isIn xs (x .parent) && (eqb (nodeOf xs (x .parent) .depth + 1) (x .depth) && linked (x .parent) v)))
 
 -- no link leaves the forest for a held slot outside it
 unfoldable pub linkRight : (ℕ → Bool) → List Node → Link → Bool
 linkRight held xs l = not (isIn xs (l .from) && (not (isIn xs (l .to)) && held (l .to)))
 
 unfoldable pub forestRight : Picture → (ℕ → Bool) → List Node → Bool
-forestRight p held xs = all (nodeRight p held xs) (range 1 (slotCount p)) && all (linkRight held xs) (p .links)
+forestRight p held xs = all (nodeRight (joins (p .links)) held xs) (range 1 (slotCount p)) && all (linkRight held xs) (p .links)
 
 -- ---- the faults
 

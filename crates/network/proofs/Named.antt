@@ -59,7 +59,7 @@ module _ (bs : List ℕ) where
   pub accepted-named : pictureFault bs ≡ 0 → Named (pictureOf bs)
   accepted-named z =
       let l = accepted-kept bs z .links in
-      let s = accepted-kept bs z .services in
+      let s = accepted-kept bs z .serviceLinks in
       record {
         links = λ a b t.
             let j = joins-at (pictureOf bs .links) a b t in

@@ -9,7 +9,7 @@ use Rattle.acts.proofs.apply.Tie as tie
 
 -- the header that was read is the picture's
 accepted : (c : tie.After-h) → Read (c .before .before .before .before .before .args .s .now) (c .h .given .0 .0)
-accepted c = accepted-read _ _ (sym (c .h .given .1) ∙ c .before .before .read .ensures)
+accepted c = accepted-read _ _ (sym (c .h .given .1) ∙ c .before .before .read .ensures .0)
 
 read-requires : tie.Need-read-requires
 read-requires c κs = search needs
@@ -41,7 +41,7 @@ same-length-2 c = search needs
 
 returns-2 : tie.Need-returns-2
 returns-2 c =
-    let r = refused-fault _ _ (sym (c .before .number .given .1) ∙ c .before .before .before .read .ensures) in
+    let r = refused-fault _ _ (sym (c .before .number .given .1) ∙ c .before .before .before .read .ensures .0) in
     let e = faulty-picture _ _ _ _ (r .1) (r .0) in
     (refused-answer _ _ _ _ (r .1) e, refused-bytes _ _ _ _ (r .1) e)
 

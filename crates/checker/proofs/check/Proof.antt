@@ -9,7 +9,7 @@ use Rattle.checker.proofs.check.Tie as tie
 
 -- the header that was read is the picture's
 accepted : (c : tie.After-h) → Read (c .before .before .before .before .before .args .s .now) (c .h .given .0 .0)
-accepted c = accepted-read _ _ (sym (c .h .given .1) ∙ c .before .before .read .ensures)
+accepted c = accepted-read _ _ (sym (c .h .given .1) ∙ c .before .before .read .ensures .0)
 
 read-requires : tie.Need-read-requires
 read-requires c κs = search needs
@@ -28,7 +28,7 @@ returns c = told-passed _ _ (c .if1 .taken) (c .before .evidence-fault .ensures)
 
 returns-2 : tie.Need-returns-2
 returns-2 c =
-    let r = refused-fault _ _ (sym (c .before .number .given .1) ∙ c .before .before .before .read .ensures) in
+    let r = refused-fault _ _ (sym (c .before .number .given .1) ∙ c .before .before .before .read .ensures .0) in
     told-refused _ _ _ (r .1) (check-picture _ _ _ (r .1) (r .0))
 
 returns-3 : tie.Need-returns-3

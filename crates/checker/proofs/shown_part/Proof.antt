@@ -22,7 +22,7 @@ use Rattle.checker.proofs.shown_part.Tie as tie
 
 -- the header that was read is the picture's
 accepted : (c : tie.After-h) → Read (c .before .before .before .before .before .args .s .now) (c .h .given .0 .0)
-accepted c = accepted-read _ _ (sym (c .h .given .1) ∙ c .before .before .read .ensures)
+accepted c = accepted-read _ _ (sym (c .h .given .1) ∙ c .before .before .read .ensures .0)
 
 few : (c : tie.After-h) → c .h .given .0 .0 .slots ≤ slotsMax
 few c = read-sizes _ _ (accepted c) .slots-most
@@ -73,7 +73,7 @@ add-t15 c = omega (arith, few (c .before .before .before .before .before .before
 
 returns-3 : tie.Need-returns-3
 returns-3 c =
-    let r = refused-fault _ _ (sym (c .enum-told .given .1) ∙ c .before .before .read .ensures) in
+    let r = refused-fault _ _ (sym (c .enum-told .given .1) ∙ c .before .before .read .ensures .0) in
     empty (shown-failed _ _ (λ z. r .1 (check-picture _ _ _ (r .1) (r .0) ∙ z)))
 
 returns-4 : tie.Need-returns-4

@@ -17,7 +17,7 @@ use Rattle.choose.proofs.choose.Tie as tie
 
 -- the header that was read is the picture's
 accepted : (c : tie.After-h) → Read (c .before .before .before .before .before .args .s .now) (c .h .given .0 .0)
-accepted c = accepted-read _ _ (sym (c .h .given .1) ∙ c .before .before .read .ensures)
+accepted c = accepted-read _ _ (sym (c .h .given .1) ∙ c .before .before .read .ensures .0)
 
 counted : (c : tie.After-count-candidates) → c .count-candidates .result ≡ length (candidates (pictureOf (c .before .before .before .before .before .before .before .before .before .args .s .now)))
 counted c =
@@ -69,7 +69,7 @@ write-evidence-requires c κs =
 
 returns-2 : tie.Need-returns-2
 returns-2 c =
-    let r = refused-fault _ _ (sym (c .before .number .given .1) ∙ c .before .before .before .read .ensures) in
+    let r = refused-fault _ _ (sym (c .before .number .given .1) ∙ c .before .before .before .read .ensures .0) in
     choose-faulty _ _ _ (r .1) (r .0)
 
 same-length : tie.Need-same-length

@@ -21,7 +21,7 @@ use Rattle.listing.proofs.list.Tie as tie
 
 -- the header that was read is the picture's
 accepted : (c : tie.After-h) → Read (c .before .before .before .before .args .s .now) (c .h .given .0 .0)
-accepted c = accepted-read _ _ (sym (c .h .given .1) ∙ c .before .before .read .ensures)
+accepted c = accepted-read _ _ (sym (c .h .given .1) ∙ c .before .before .read .ensures .0)
 
 -- the space is as long as the longest evidence
 space-long : length (replicate {A = ℕ} evidenceMax 0) ≡ evidenceMax
@@ -81,7 +81,7 @@ put-lines-requires c κs =
 
 returns : tie.Need-returns
 returns c =
-    let r = refused-fault _ _ (sym (c .before .before .before .number .given .1) ∙ c .before .before .before .before .before .read .ensures) in
+    let r = refused-fault _ _ (sym (c .before .before .before .number .given .1) ∙ c .before .before .before .before .before .read .ensures .0) in
     text-whole _ (c .put-refused-line .ensures) (sym (listing-refused _ _ (r .0) (r .1)))
 
 returns-2 : tie.Need-returns-2

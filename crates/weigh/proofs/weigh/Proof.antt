@@ -17,7 +17,7 @@ use Rattle.weigh.proofs.weigh_block.Reads as weigh-block-reads
 
 -- the header that was read is the picture's
 accepted : (c : tie.After-h) → Read (c .before .before .before .before .args .s .now) (c .h .given .0 .0)
-accepted c = accepted-read _ _ (sym (c .h .given .1) ∙ c .before .before .read .ensures)
+accepted c = accepted-read _ _ (sym (c .h .given .1) ∙ c .before .before .read .ensures .0)
 
 read-requires : tie.Need-read-requires
 read-requires c κs = search needs
@@ -43,7 +43,7 @@ weigh-block-requires c κs =
 
 returns-2 : tie.Need-returns-2
 returns-2 c =
-    let r = refused-fault _ _ (sym (c .before .number .given .1) ∙ c .before .before .before .read .ensures) in
+    let r = refused-fault _ _ (sym (c .before .number .given .1) ∙ c .before .before .before .read .ensures .0) in
     weigh-faulty _ _ _ (r .1) (r .0)
 
 returns-3 : tie.Need-returns-3

@@ -4,7 +4,6 @@ ghost use mathlib.Core.Bool.{true};
 ghost use mathlib.Core.List.{List};
 ghost use Prim.Native.Nat.{ℕ, _+_, _-_, _*_, _^_, _≤_, _<_};
 ghost use lib.ListN.{length};
-ghost use Rattle.bits.specs.Bits.{fieldAt};
 ghost use Rattle.rows.specs.Rows.{linkedIn, locationsMax, slotsMax};
 ghost use Rattle.graph.specs.Held.{heldIn};
 ghost use Rattle.picture.specs.Layout.{edition1};
@@ -12,35 +11,23 @@ ghost use Rattle.picture.specs.Picture.{pictureOf};
 ghost use Rattle.picture.specs.Inner.{Read};
 ghost use Rattle.network.specs.Tests.{candidates};
 ghost use Rattle.network.specs.Rows.{SlotRowsOf};
-ghost use Rattle.evidence.specs.Checks.{forestIn, formRight};
-ghost use Rattle.checker.specs.Following.{nodeFrom, nodeTest, LeftIn, statedTest, partsFault};
-use super::faults::FOREST;
-use super::faults::WEIGHT;
-use evidence::BLOCK_BITS;
-use evidence::HEAD_BITS;
+ghost use Rattle.evidence.specs.Checks.{sectionIn, forestIn, nodeRight, formRight};
+ghost use Rattle.checker.specs.Forests.{nodeFrom, LeftIn, statedTest, partsFault};
 use evidence::LOCATION_BITS;
-use evidence::MARK_BITS;
 use evidence::NODE_BITS;
-use evidence::SECTION_BITS;
-use evidence::SECTION_LOSS_AT;
-use evidence::SECTION_MARK_AT;
-use evidence::SERVED_AT;
-use evidence::WEIGHT_BITS;
+use graph::Node;
+use network::ENDPOINTS;
 use picture::Header;
+use picture::refusals::FOREST;
+use picture::refusals::WEIGHT;
 use rows::LOCATIONS;
 use rows::WORDS;
 use weigh::Lost;
 
-// The entry of a slot in a forest.
-struct Node {
-    parent: usize,
-    depth: usize,
-}
-
 // Node v of the forest that starts at bit q, read as one field.
 fn node_at(ev: &[u8], q: usize, v: usize) -> Node
     requires { ⌜ (1 ≤ v) × (v ≤ slotsMax) × (q < 2 ^ 20) ⌝ }
-    ensures { λ r. ⌜ (r .parent ≡ nodeFrom (now (ev .entry)) q v .parent) × (r .depth ≡ nodeFrom (now (ev .entry)) q v .depth) ⌝ }
+    ensures { λ r. ⌜ r ≡ nodeFrom (now (ev .entry)) q v ⌝ }
 {
     let both = bits::field(ev, q + (v - 1) * NODE_BITS, NODE_BITS);
     Node {
@@ -60,8 +47,8 @@ fn node_right(
     x: Node,
 ) -> bool
     requires { ⌜ (length (now links) ≡ locationsMax) × (1 ≤ v) × (v ≤ n) × (n ≤ slotsMax) × (q < 2 ^ 20) ⌝ }
-    requires { ⌜ (x .parent ≡ nodeFrom (now ev) q v .parent) × (x .depth ≡ nodeFrom (now ev) q v .depth) ⌝ }
-    ensures { λ r. ⌜ r ≡ nodeTest (linkedIn (now (links .entry))) (heldIn (now (held .entry))) (forestIn edition1 n (now (ev .entry)) q) v ⌝ }
+    requires { ⌜ x ≡ nodeFrom (now ev) q v ⌝ }
+    ensures { λ r. ⌜ r ≡ nodeRight (linkedIn (now (links .entry))) (heldIn (now (held .entry))) (forestIn edition1 n (now (ev .entry)) q) v ⌝ }
 {
     let parent = x.parent;
     let depth = x.depth;
@@ -89,32 +76,33 @@ fn node_right(
     above + 1 == depth
 }
 
-// The held slots of part k, whose forest starts at bit q: all of them, less those of the block that a section evicts.
-fn held_in(held: [u64; WORDS], size: usize, ev: &[u8], q: usize, k: usize) -> [u64; WORDS]
-    requires { ⌜ (40 ≤ q) × (1 ≤ k → fieldAt (now ev) (q - 40) 8 * size + size ≤ slotsMax) ⌝ }
-    ensures { λ r. ⌜ LeftIn held size (fieldAt (now (ev .entry)) (q - 40) 8) k r ⌝ }
+// The held slots of part k: all of them, less those of the block that a section evicts.
+fn held_in(held: [u64; WORDS], size: usize, ev: &[u8], n: usize, k: usize) -> [u64; WORDS]
+    requires { ⌜ (n ≤ slotsMax) × (k ≤ 255) × (1 ≤ k → sectionIn edition1 n (now ev) (k - 1) .block * size + size ≤ slotsMax) ⌝ }
+    ensures { λ r. ⌜ LeftIn held size (sectionIn edition1 n (now (ev .entry)) (k - 1) .block) k r ⌝ }
 {
     if k == 0 {
         return held;
     }
-    let b = bits::field(ev, q - SECTION_BITS, BLOCK_BITS);
+    let b = evidence::section_of(ev, n, k - 1).block;
     rows::minus(held, network::block_row(size, b))
 }
 
-// Whether part k, whose forest starts at bit q, states this weight and mark: the served weight, or the loss and the mark of a section.
-fn stated_right(ev: &[u8], q: usize, k: usize, lost: Lost) -> bool
-    requires { ⌜ 40 ≤ q ⌝ }
-    ensures { λ r. ⌜ r ≡ statedTest (now (ev .entry)) q k (lost .weight) (lost .mark) ⌝ }
+// Whether part k states this weight and mark: the served weight, or the loss and the mark of a section.
+fn stated_right(ev: &[u8], n: usize, k: usize, lost: Lost) -> bool
+    requires { ⌜ (n ≤ slotsMax) × (k ≤ 255) ⌝ }
+    ensures { λ r. ⌜ r ≡ statedTest n (now (ev .entry)) k (lost .weight) (lost .mark) ⌝ }
 {
     let weight = lost.weight as usize;
     let mark = lost.mark as usize;
     if k == 0 {
-        return bits::field(ev, SERVED_AT, WEIGHT_BITS) == weight;
+        return evidence::head_of(ev).served == weight;
     }
-    if bits::field(ev, q - SECTION_BITS + SECTION_LOSS_AT, WEIGHT_BITS) != weight {
+    let w = evidence::section_of(ev, n, k - 1);
+    if w.loss != weight {
         return false;
     }
-    bits::field(ev, q - SECTION_BITS + SECTION_MARK_AT, MARK_BITS) == mark
+    w.mark == mark
 }
 
 // The first fault of the forests and of the weights that are stated of them, or 0: part by part, slot by slot, and the links of each
@@ -126,18 +114,19 @@ pub fn parts_fault(s: &[u8], h: Header, ev: &[u8], held: [u64; WORDS], count: us
     let n = h.slots;
     let size = h.block_size;
     let d = h.endpoints;
-    let links = network::link_rows(s, h);
-    let services = network::service_link_rows(s, h);
-    let ends = network::endpoint_rows(s, h);
-    let weights = ends.weights;
-    let protected = ends.protected;
+    let mut links = [[0u64; WORDS]; LOCATIONS];
+    let mut services = [[0u64; WORDS]; ENDPOINTS];
+    let mut weights = [0u32; ENDPOINTS];
+    network::link_rows(s, h, &mut links);
+    network::service_link_rows(s, h, &mut services);
+    let protected = network::endpoint_rows(s, h, &mut weights);
     let none = [0u64; WORDS];
     let mut now = none;
     let mut fault: u8 = 0;
     let mut k: usize = 0;
     'check: while k <= count {
-        let q = HEAD_BITS + k * (SECTION_BITS + n * NODE_BITS);
-        let left = held_in(held, size, ev, q, k);
+        let q = evidence::forest_at(n, k);
+        let left = held_in(held, size, ev, n, k);
         let mut slots = none;
         let mut v: usize = 1;
         while v <= n {
@@ -177,7 +166,7 @@ pub fn parts_fault(s: &[u8], h: Header, ev: &[u8], held: [u64; WORDS], count: us
             still = inside;
         }
         let lost = weigh::lost_between(&services, &weights, protected, d, now, still);
-        let right = stated_right(ev, q, k, lost);
+        let right = stated_right(ev, n, k, lost);
         if !right {
             fault = WEIGHT;
             break 'check;
