@@ -1,20 +1,25 @@
 -- The candidates as a test and as a list are the blocks with a held near slot. Assumes nothing.
-use mathlib.Core.Path.{subst}
-use mathlib.Core.Bool.{_&&_}
+use mathlib.Core.Path.{_≡_, sym, ap, ap₂, _∙_, subst, fun-ext}
+use mathlib.Core.Bool.{Bool, _&&_}
 use mathlib.Core.Logic.{⊎-elim}
-use Prim.Native.Nat.{ℕ, _≤_, _<_, zero-le}
+use mathlib.Core.List.{List}
+use Prim.Native.Nat.{ℕ, _+_, _*_, _≤_, _<_, zero-le}
 use native.Mathlib.Omega.{arith}
 use native.Mathlib.Nat.{zero-add}
-use lib.Dec.{T}
+use borrow.Author.Tests.{le-leb}
+use lib.Dec.{T, leb, leb→le}
 use lib.ListN.{length, getD}
-use Rattle.lists.specs.Lists.{range}
+use Rattle.lists.specs.Lists.{range, filter}
+use Rattle.lists.proofs.Alls.{same-test}
 use Rattle.lists.proofs.Tests.{and-T, T-and}
 use Rattle.lists.proofs.Ranges.{any-range, range-any}
 use Rattle.lists.proofs.Filters.{filter-below}
 use Rattle.lists.proofs.Picks.{item-inside, Placed, filter-passes, range-leaves, filter-rises}
+use Rattle.rows.specs.Rows.{marked}
 use Rattle.picture.specs.Picture.{Slot, Picture, slotOf}
 use Rattle.network.specs.Words.{slotCount, blockCount, inBlock, isHeld, Candidate}
 use Rattle.network.specs.Tests.{isNearHeld, isCandidate, candidates}
+use Rattle.network.specs.Rows.{SlotRowsOf, blockMarked, blocksMarked}
 
 -- ---- the test
 
@@ -58,3 +63,31 @@ module _ (p : Picture) where
   pub candidates-rise : (i j : ℕ) → i < j → j < length (candidates p) → getD (candidates p) i 0 < getD (candidates p) j 0
   unfolding candidates
   candidates-rise = filter-rises (isCandidate p) 0 (blockCount p)
+
+-- ---- the candidates by the row of the held near slots
+
+module _ {p : Picture} {holding near : List ℕ} (s : SlotRowsOf p holding near) {size : ℕ} (e : p .blockSize ≡ size) where
+  pub marked-candidate : (b : ℕ) → blockMarked near size b ≡ isCandidate p b
+  unfolding blockMarked isNearHeld inBlock
+  marked-candidate b = ap (λ (k : ℕ). blockMarked near k b) (sym e) ∙ same-test _ _ there back
+    where
+      there : T (blockMarked near (p .blockSize) b) → T (isCandidate p b)
+      there t =
+          let x = any-range (marked near) (b * p .blockSize + 1) (p .blockSize) t in
+          let v = x .number in
+          let h = and-T (isHeld p v) (slotOf p v .near) (subst T (s .near v) (x .passes)) in
+          let inside : T (inBlock p b v) = rw (le-leb (b * p .blockSize + 1) v (x .from), le-leb v (b * p .blockSize + p .blockSize) (omega (arith, x .below))) tt in
+          test-candidate (record { slot = v; inside = inside; held = h .0; near = h .1 })
+
+      back : T (isCandidate p b) → T (blockMarked near (p .blockSize) b)
+      back t =
+          let c = candidate-test p b t in
+          let v = c .slot in
+          let i = and-T (leb (b * p .blockSize + 1) v) (leb v (b * p .blockSize + p .blockSize)) (c .inside) in
+          let m = subst T (sym (s .near v)) (T-and (isHeld p v) (slotOf p v .near) (c .held) (c .near)) in
+          range-any (marked near) (b * p .blockSize + 1) (p .blockSize)
+          (record { number = v; from = leb→le _ _ (i .0); below = omega (arith, leb→le v (b * p .blockSize + p .blockSize) (i .1)); passes = m })
+
+  pub marked-candidates : {blocks : ℕ} → blockCount p ≡ blocks → blocksMarked near size blocks ≡ candidates p
+  unfolding blocksMarked candidates
+  marked-candidates q = ap₂ (λ (f : ℕ → Bool) (k : ℕ). filter f (range 0 k)) (fun-ext marked-candidate) (sym q)

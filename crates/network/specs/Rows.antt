@@ -5,6 +5,7 @@ use mathlib.Core.Path.{_≡_}
 use Prim.Native.Nat.{ℕ, suc, _+_, _*_}
 use lib.Dec.{leb}
 use lib.ListN.{length, getD}
+use Rattle.lists.specs.Lists.{range, any, filter}
 use Rattle.rows.specs.Rows.{marked, linkedIn, locationsMax}
 use Rattle.graph.specs.Held.{heldIn, SlotsOnly}
 use Rattle.picture.specs.declared.Header.{Header}
@@ -53,3 +54,11 @@ pub record EndpointsOf (p : Picture) (weights guarded : List ℕ) : Type 0 where
 -- a row that marks the locations of a block: b times the block size plus 1 to b times the block size plus the block size
 pub record BlockRow (size b : ℕ) (row : List ℕ) : Type 0 where
   pub marks : (v : ℕ) → marked row v ≡ (leb (b * size + 1) v && leb v (b * size + size))
+
+-- a slot of block b is marked
+unfoldable pub blockMarked : List ℕ → ℕ → ℕ → Bool
+blockMarked near size b = any (marked near) (range (b * size + 1) size)
+
+-- the blocks with a marked slot, in rising order
+unfoldable pub blocksMarked : List ℕ → ℕ → ℕ → List ℕ
+blocksMarked near size blocks = filter (blockMarked near size) (range 0 blocks)

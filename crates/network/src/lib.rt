@@ -8,7 +8,7 @@ ghost use Rattle.picture.specs.Picture.{pictureOf};
 ghost use Rattle.picture.specs.Inner.{Read};
 ghost use Rattle.network.specs.Words.{joins, isHeld};
 ghost use Rattle.network.specs.Tests.{isNearHeld};
-ghost use Rattle.network.specs.Rows.{Clear, RowsOf, countOf, rowsFor, tableOf, SlotRowsOf, BlockRow, EndpointsOf};
+ghost use Rattle.network.specs.Rows.{Clear, RowsOf, countOf, rowsFor, tableOf, SlotRowsOf, BlockRow, blockMarked, EndpointsOf};
 use picture::ENDPOINTS_MAX;
 use picture::HELD;
 use picture::Header;
@@ -118,6 +118,22 @@ pub fn block_row(size: usize, b: usize) -> [u64; WORDS]
         rows::add(&mut row, start + k);
     }
     row
+}
+
+// Whether block b has a held near slot, by the row of these.
+pub fn is_candidate(near: &[u64; WORDS], size: usize, b: usize) -> bool
+    requires { ⌜ b * size + size ≤ slotsMax ⌝ }
+    ensures { λ r. ⌜ r ≡ blockMarked (now (near .entry)) size b ⌝ }
+{
+    let first = b * size + 1;
+    let mut k: usize = 0;
+    while k < size {
+        if rows::has(near, first + k) {
+            return true;
+        }
+        k += 1;
+    }
+    false
 }
 
 // Writes the endpoints' weights into an array of zeros, and gives the row of the protected ones.
