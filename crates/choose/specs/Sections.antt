@@ -1,56 +1,41 @@
--- The candidates, the choice among them and their sections, by the rows of an accepted picture. Assumes nothing.
-use mathlib.Core.Bool.{_&&_, _||_, cond}
+-- What is planned, the candidates' sections and the choice among them, by the rows of an accepted picture. Assumes nothing.
 use mathlib.Core.List.{List, map}
 use mathlib.Core.Path.{_≡_}
-use Prim.Native.Nat.{ℕ, _+_, _*_, _≤_, _<_}
-use lib.Dec.{eqb, ltb}
+use Prim.Native.Nat.{ℕ, suc, _+_, _*_, _≤_, _<_}
 use lib.ListN.{length}
 use Rattle.lists.specs.Lists.{flat}
 use Rattle.packing.specs.Holding.{Put}
-use Rattle.rows.specs.Rows.{marked}
+use Rattle.rows.specs.Rows.{marked, locationsMax}
 use Rattle.graph.specs.Held.{heldIn, SlotsOnly}
 use Rattle.graph.specs.Steps.{Walked}
 use Rattle.picture.specs.declared.Header.{Header}
-use Rattle.picture.specs.Layout.{edition1}
+use Rattle.picture.specs.Layout.{edition1, endpointsMax}
 use Rattle.picture.specs.Picture.{Picture, pictureOf}
 use Rattle.picture.specs.Inner.{Read}
-use Rattle.network.specs.Words.{blockCount, isHeld, heldWithout, joins}
 use Rattle.network.specs.declared.Cost.{Cost}
+use Rattle.network.specs.Words.{blockCount, isHeld, heldWithout, joins}
 use Rattle.network.specs.Tests.{weighed, candidates}
 use Rattle.network.specs.Rows.{RowsOf, SlotRowsOf, EndpointsOf}
-use Rattle.evidence.specs.Layout.{evidenceMax}
 use Rattle.evidence.specs.declared.Choice.{Choice}
+use Rattle.evidence.specs.Layout.{sectionBytes, evidenceMax}
 use Rattle.evidence.specs.Canonical.{weighings, least, sectionFields}
 use Rattle.evidence.specs.Calls.{lengthFor}
-use Rattle.choose.specs.declared.Choice.{Choice as Kept}
 
--- ---- the choice
+-- ---- before anything is written
 
--- the choice that the code keeps
-unfoldable pub choiceOf : Kept → Choice
-choiceOf c = record { verdict = c .verdict; block = c .block; loss = c .loss }
-
--- the choice with one candidate more, whose number is above all before: it is taken where it cuts no protected endpoint, and none was
--- chosen before or one that loses more
-unfoldable pub bettered : Choice → Cost → Choice
-bettered c w =
-    let this : Choice = record { verdict = 1; block = w .block; loss = w .loss } in
-    cond (eqb (w .mark) 0 && (eqb (c .verdict) 0 || ltb (w .loss) (c .loss))) this c
-
--- ---- the candidates
-
--- the number of candidates of every picture that has these blocks and this row of near slots
-pub record Counted (size blocks : ℕ) (nearby : List ℕ) (count : ℕ) : Type 0 where
-  pub most : count ≤ blocks
-  pub same : (p : Picture) (holding : List ℕ) → SlotRowsOf p holding nearby → p .blockSize ≡ size → blockCount p ≡ blocks → count ≡ length (candidates p)
+-- what is known of an accepted picture: the rows of its slots, the number of its candidates, and the evidence's length
+pub record Planned (bs holding nearby : List ℕ) (count size : ℕ) : Type 0 where
+  pub slots : SlotRowsOf (pictureOf bs) holding nearby
+  pub counted : count ≡ length (candidates (pictureOf bs))
+  pub long : size ≡ lengthFor bs
 
 -- ---- the sections
 
 -- the rows of an accepted picture that weighing a block takes, and the row of what is reached now
 pub record WeighRows (bs : List ℕ) (h : Header) (linkTable serviceTable : List (List ℕ)) (weights guarded reached : List ℕ) : Type 0 where
   pub read : Read bs h
-  pub links : RowsOf (joins (pictureOf bs .links)) linkTable
-  pub services : RowsOf (λ c a. joins (pictureOf bs .serviceLinks) a c) serviceTable
+  pub links : RowsOf locationsMax (joins (pictureOf bs .links)) linkTable
+  pub services : RowsOf (suc endpointsMax) (λ c a. joins (pictureOf bs .serviceLinks) a c) serviceTable
   pub ends : EndpointsOf (pictureOf bs) weights guarded
   pub parents : List ℕ
   pub depths : List ℕ
@@ -63,8 +48,8 @@ pub record Left (p : Picture) (b : ℕ) (left : List ℕ) : Type 0 where
 
 -- there is room for c sections from byte q on; the bound keeps a bit's place in the numbers of the code
 pub record Room (n q c : ℕ) (bs : List ℕ) : Type 0 where
-  pub fits : q + c * (5 + n * 2) ≤ length bs
-  pub low : q + c * (5 + n * 2) ≤ evidenceMax
+  pub fits : q + c * sectionBytes edition1 n ≤ length bs
+  pub low : q + c * sectionBytes edition1 n ≤ evidenceMax
 
 -- what a section needs: the rows of some picture, a block, and room
 pub record SectionReady (h : Header) (linkTable serviceTable : List (List ℕ)) (weights guarded reached rest : List ℕ) (b q : ℕ) (buf : List ℕ) : Type 0 where
@@ -74,11 +59,10 @@ pub record SectionReady (h : Header) (linkTable serviceTable : List (List ℕ)) 
   pub left : Left (pictureOf bytes) b rest
   pub room : Room (h .slots) q 1 buf
 
--- the section of block b stands from byte q on, and its loss and mark are told
-pub record SectionDone (p : Picture) (b q : ℕ) (buf buf′ : List ℕ) (lost told : ℕ) : Type 0 where
+-- the section of block b stands from byte q on, and its cost is told
+pub record SectionDone (p : Picture) (b q : ℕ) (buf buf′ : List ℕ) (w : Cost) : Type 0 where
   pub put : Put buf (q * 8) (sectionFields edition1 p (weighed p b)) buf′
-  pub loss : lost ≡ weighed p b .loss
-  pub mark : told ≡ weighed p b .mark
+  pub cost : w ≡ weighed p b
 
 -- what the sections need: the rows of some picture, and room for those of all candidates
 pub record SectionsReady (h : Header) (linkTable serviceTable : List (List ℕ)) (weights guarded holding nearby reached : List ℕ) (at : ℕ) (buf : List ℕ) : Type 0 where
@@ -94,9 +78,8 @@ pub record Sectioned (p : Picture) (at : ℕ) (buf buf′ : List ℕ) (best : Ch
 
 -- ---- the evidence
 
--- what writing the evidence needs: the rows of the slots, the number of candidates, and room
-pub record EvidenceReady (bs : List ℕ) (h : Header) (holding nearby : List ℕ) (count : ℕ) (buf : List ℕ) : Type 0 where
+-- what writing the evidence needs: what was planned, and room
+pub record EvidenceReady (bs : List ℕ) (h : Header) (holding nearby : List ℕ) (count size : ℕ) (buf : List ℕ) : Type 0 where
   pub read : Read bs h
-  pub slots : SlotRowsOf (pictureOf bs) holding nearby
-  pub counted : count ≡ length (candidates (pictureOf bs))
-  pub room : lengthFor bs ≤ length buf
+  pub planned : Planned bs holding nearby count size
+  pub room : size ≤ length buf

@@ -2,11 +2,12 @@
 use mathlib.Core.List.{List, [], _∷_, _++_, map}
 use Prim.Native.Nat.{ℕ, _+_, _*_, _^_, _≤_, _<_}
 use lib.ListN.{length, getD}
-use Rattle.lists.specs.Lists.{range}
+use Rattle.lists.specs.Lists.{range, sum}
 use Rattle.packing.specs.Packing.{Field}
 use Rattle.graph.specs.declared.Node.{Node}
 use Rattle.picture.specs.Layout.{edition1}
-use Rattle.evidence.specs.Layout.{sectionWidths, evidenceMax}
+use Rattle.network.specs.declared.Cost.{Cost}
+use Rattle.evidence.specs.Layout.{headWidths, sectionWidths, sectionBytes, evidenceMax}
 use Rattle.evidence.specs.declared.Choice.{Choice}
 use Rattle.evidence.specs.Canonical.{fieldsOf, forestFields}
 
@@ -15,23 +16,22 @@ unfoldable pub nodesIn : List ℕ → List ℕ → ℕ → List Node
 nodesIn parents depths n = map (λ v. record { parent = getD parents v 0; depth = getD depths v 0 }) (range 1 n)
 
 -- the fields of a section whose forest is in arrays
-unfoldable pub arraySection : ℕ → ℕ → ℕ → List ℕ → List ℕ → ℕ → List Field
-arraySection block loss mark parents depths n =
-    fieldsOf sectionWidths (block ∷ loss ∷ mark ∷ []) ++ forestFields edition1 (nodesIn parents depths n)
+unfoldable pub arraySection : Cost → List ℕ → List ℕ → ℕ → List Field
+arraySection w parents depths n = fieldsOf sectionWidths (w .block ∷ w .loss ∷ w .mark ∷ []) ++ forestFields edition1 (nodesIn parents depths n)
 
 -- the values of a section's fields fit their widths, and there is room for them. A place is low enough for the numbers of the code
-pub record SectionFits (at n block lost told : ℕ) (parents depths buf : List ℕ) : Type 0 where
-  pub room : at + 5 + n * 2 ≤ length buf
+pub record SectionFits (at n : ℕ) (w : Cost) (parents depths buf : List ℕ) : Type 0 where
+  pub room : at + sectionBytes edition1 n ≤ length buf
   pub low : at ≤ evidenceMax
-  pub number : block < 2 ^ 8
-  pub loss : lost < 2 ^ 24
-  pub mark : told < 2 ^ 8
+  pub block : w .block < 2 ^ 8
+  pub loss : w .loss < 2 ^ 24
+  pub mark : w .mark < 2 ^ 8
   pub more-parents : n < length parents
   pub more-depths : n < length depths
 
 -- the same of the head
 pub record HeadFits (c : Choice) (count served : ℕ) (buf : List ℕ) : Type 0 where
-  pub room : 9 ≤ length buf
+  pub room : sum headWidths ≤ length buf * 8
   pub verdict : c .verdict < 2 ^ 4
   pub block : c .block < 2 ^ 8
   pub few : count < 2 ^ 8

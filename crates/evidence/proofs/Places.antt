@@ -8,13 +8,21 @@ use Rattle.bits.specs.Bits.{fieldAt}
 use Rattle.lists.specs.Lists.{sum}
 use Rattle.rows.specs.Rows.{slotsMax}
 use Rattle.picture.specs.Layout.{edition1, fieldIn}
-use Rattle.evidence.specs.Layout.{headWidths, nodeWidths, sectionWidths, forestBits, sectionBits, sectionAt, forestAt}
+use Rattle.evidence.specs.Layout.{headWidths, nodeWidths, sectionWidths, forestBits, sectionBits, sectionBytes, sectionAt, forestAt}
 use Rattle.evidence.specs.Checks.{sectionIn}
 
 -- the numbers of edition 1, which the laws of this crate alone use
 pub section-bits : (n : ℕ) → sectionBits edition1 n ≡ 40 + n * 16
 unfolding sectionBits sectionWidths forestBits nodeWidths sum
 section-bits n = refl
+
+pub section-bytes : (n : ℕ) → sectionBytes edition1 n ≡ 5 + n * 2
+unfolding sectionBytes
+section-bytes n = omega (arith, section-bits n)
+
+-- a section takes whole bytes
+pub section-whole : (n : ℕ) → sectionBits edition1 n ≡ sectionBytes edition1 n * 8
+section-whole n = omega (arith, section-bits n, section-bytes n)
 
 pub section-at : (n i : ℕ) → sectionAt edition1 n i ≡ 72 + n * 16 + i * (40 + n * 16)
 unfolding sectionAt headWidths sectionBits sectionWidths forestBits nodeWidths sum

@@ -23,11 +23,11 @@ use Rattle.network.specs.Words.{slotCount, Candidate}
 use Rattle.network.specs.Tests.{candidates}
 use Rattle.network.proofs.Candidates.{candidates-all}
 use Rattle.evidence.specs.declared.Part.{Part}
-use Rattle.evidence.specs.Layout.{sectionWidths, sectionBits, sectionAt, evidenceBytes}
+use Rattle.evidence.specs.Layout.{sectionWidths, sectionBytes, sectionAt, evidenceBytes}
 use Rattle.evidence.specs.Checks.{headIn, sectionIn, checkFault}
 use Rattle.evidence.specs.Rules.{Verdict, chosen, none}
 use Rattle.evidence.specs.Calls.{shownPart, shown, SectionOf}
-use Rattle.evidence.proofs.Places.{section-bits, section-at}
+use Rattle.evidence.proofs.Places.{section-bytes, section-at}
 use Rattle.evidence.proofs.Lengths.{sections-end}
 use Rattle.evidence.proofs.Weighings.{candidate-below}
 use Rattle.evidence.proofs.Passing.{Passes, check-passes}
@@ -67,7 +67,7 @@ module _ (bs ev : List ℕ) where
   shown-none n = rw (ne-eqb (headIn ev .verdict) 1 n, and-false (eqb (checkFault bs ev) 0))
 
   module _ (passed : checkFault bs ev ≡ 0) (one : headIn ev .verdict ≡ 1) where
-    pub shown-part : shownPart bs ev ≡ record { start = sectionAt edition1 (slotCount (pictureOf bs)) namedAt / 8; size = sectionBits edition1 (slotCount (pictureOf bs)) / 8 }
+    pub shown-part : shownPart bs ev ≡ record { start = sectionAt edition1 (slotCount (pictureOf bs)) namedAt / 8; size = sectionBytes edition1 (slotCount (pictureOf bs)) }
     unfolding shownPart
     shown-part = rw (eq-eqb (checkFault bs ev) 0 passed, eq-eqb (headIn ev .verdict) 1 one)
 
@@ -98,7 +98,7 @@ module _ (bs ev : List ℕ) where
         (omega (
           arith,
           m,
-          section-bits n,
+          section-bytes n,
           passes .form .size,
           section-at n namedAt,
           section-at n (length (candidates (pictureOf bs))),
@@ -114,7 +114,7 @@ module _ (bs ev : List ℕ) where
     unfolding shown sectionIn sectionWidths fieldIn sum
     shown-section =
         let n = slotCount (pictureOf bs) in
-        let size : shownPart bs ev .size ≡ 5 + 2 * n = ap (λ (p : Part). p .size) shown-part ∙ omega (arith, section-bits n) in
+        let size : shownPart bs ev .size ≡ 5 + 2 * n = ap (λ (p : Part). p .size) shown-part ∙ omega (arith, section-bytes n) in
         record {
           size = simp (length-take, length-drop) (omega (arith, section-room, size));
           begins =

@@ -13,7 +13,7 @@ use Rattle.picture.specs.Faults.{pictureFault}
 use Rattle.network.specs.Words.{slotCount}
 use Rattle.network.specs.Tests.{candidates}
 use Rattle.evidence.specs.declared.Part.{Part}
-use Rattle.evidence.specs.Layout.{sectionAt, sectionBits, evidenceBytes}
+use Rattle.evidence.specs.Layout.{sectionAt, sectionBytes, evidenceBytes}
 use Rattle.evidence.specs.Canonical.{evidenceOf}
 use Rattle.evidence.specs.Checks.{headIn, checkFault}
 
@@ -38,7 +38,7 @@ shownPart bs ev =
     let e : Edition = editionOf bs in
     let p : Picture = pictureOf bs in
     let i : ℕ = place (λ c. eqb c (headIn ev .block)) (candidates p) in
-    let section : Part = record { start = sectionAt e (slotCount p) i / 8; size = sectionBits e (slotCount p) / 8 } in
+    let section : Part = record { start = sectionAt e (slotCount p) i / 8; size = sectionBytes e (slotCount p) } in
     cond (eqb (checkFault bs ev) 0 && eqb (headIn ev .verdict) 1) section (record { start = 0; size = 0 })
 
 unfoldable pub shown : List ℕ → List ℕ → List ℕ

@@ -23,6 +23,10 @@ forestBits e n = n * sum (nodeWidths e)
 unfoldable pub sectionBits : Edition → ℕ → ℕ
 sectionBits e n = sum sectionWidths + forestBits e n
 
+-- the same in bytes: every edition's sections take whole ones
+unfoldable pub sectionBytes : Edition → ℕ → ℕ
+sectionBytes e n = sectionBits e n / 8
+
 -- where section i starts, after the head, the first forest and the sections before it
 unfoldable pub sectionAt : Edition → ℕ → ℕ → ℕ
 sectionAt e n i = sum headWidths + forestBits e n + i * sectionBits e n

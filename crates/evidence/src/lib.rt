@@ -4,7 +4,7 @@ ghost use mathlib.Core.Path.{_≡_};
 ghost use Prim.Native.Nat.{_≤_};
 ghost use Rattle.rows.specs.Rows.{slotsMax};
 ghost use Rattle.picture.specs.Layout.{edition1};
-ghost use Rattle.evidence.specs.Layout.{sectionBits, sectionAt, forestAt};
+ghost use Rattle.evidence.specs.Layout.{sectionBits, sectionBytes, sectionAt, forestAt};
 ghost use Rattle.evidence.specs.Canonical.{bettered};
 ghost use Rattle.evidence.specs.Checks.{headIn, sectionIn};
 use network::Cost;
@@ -95,6 +95,14 @@ pub fn section_bits(n: usize) -> usize
     ensures { λ r. ⌜ r ≡ sectionBits edition1 n ⌝ }
 {
     SECTION_HEAD_BITS + n * NODE_BITS
+}
+
+// The same in bytes: a section has whole ones.
+pub fn section_bytes(n: usize) -> usize
+    requires { ⌜ n ≤ slotsMax ⌝ }
+    ensures { λ r. ⌜ r ≡ sectionBytes edition1 n ⌝ }
+{
+    section_bits(n) / BYTE_BITS
 }
 
 // Where section i starts, in bits.
