@@ -89,7 +89,7 @@ fn count_candidates(size: usize, blocks: usize, near: [u64; WORDS]) -> usize
 }
 
 // What is known before the evidence of an accepted picture is written.
-pub fn plan(s: &[u8], h: Header) -> Plan
+pub fn make_plan(s: &[u8], h: Header) -> Plan
     requires { ⌜ Read (now s) h ⌝ }
     ensures { λ r. ⌜ Planned (now (s .entry)) (r .held) (r .near) (r .count) (r .length) ⌝ }
 {
@@ -268,7 +268,7 @@ pub fn choose(s: &[u8], buf: &mut [u8]) -> Choosing
     match picture::read(s) {
         Reading::Refused(number) => Choosing::Refused(number),
         Reading::Accepted(h) => {
-            let p = plan(s, h);
+            let p = make_plan(s, h);
             if buf.len() < p.length {
                 return Choosing::Refused(BUFFER);
             }
