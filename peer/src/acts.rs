@@ -2,7 +2,7 @@
 
 use std::ops::Range;
 
-use crate::fault;
+use crate::refusals;
 use crate::picture::{read, write, Picture, State};
 use crate::reach::Network;
 
@@ -30,7 +30,7 @@ pub fn reload(lent: &mut [u8], block: u32) -> Result<(), u8> {
     // A reload of far slots alone is done, even where the picture is over its limit.
     let held_near = changed.held_near();
     if held_near > picture.held_near() && held_near > usize::from(picture.near_limit) {
-        return Err(fault::NEAR_LIMIT);
+        return Err(refusals::NEAR);
     }
     lent.copy_from_slice(&write(&changed));
     Ok(())
@@ -58,7 +58,7 @@ fn with_states(
         slot.state = turned(slot.state);
     }
     if changed.slots == picture.slots {
-        return Err(fault::NOTHING);
+        return Err(refusals::NO_CHANGE);
     }
     Ok(changed)
 }
@@ -66,7 +66,7 @@ fn with_states(
 fn judge_cut(picture: &Picture, locations: &Range<usize>) -> Result<(), u8> {
     let (_, cut) = Network::new(picture).weigh(locations);
     if cut.mark == 1 {
-        return Err(fault::PROTECTED);
+        return Err(refusals::PROTECTED);
     }
     Ok(())
 }

@@ -3,7 +3,7 @@
 use std::ops::Range;
 
 use crate::choice::{evidence_bytes, section_bytes, EVIDENCE_EDITION, HEAD_BYTES, SECTION_HEAD_BYTES};
-use crate::fault;
+use crate::refusals;
 use crate::picture::{read, Picture};
 use crate::reach::{Forest, Network, NOTHING};
 
@@ -30,7 +30,7 @@ impl<'e> Evidence<'e> {
         let slots = picture.slots.len();
         let candidates = picture.candidates();
         if bytes.len() != evidence_bytes(slots, candidates.len()) {
-            return Err(fault::SHAPE);
+            return Err(refusals::FORM);
         }
         let (head, rest) = bytes.split_at(HEAD_BYTES);
         let (forest, rest) = rest.split_at(2 * slots);
@@ -50,7 +50,7 @@ impl<'e> Evidence<'e> {
         if head_fits && sections_fit {
             Ok(evidence)
         } else {
-            Err(fault::SHAPE)
+            Err(refusals::FORM)
         }
     }
 
@@ -126,20 +126,20 @@ fn no_link_leads_on(network: &Network, forest: &Forest, from: usize, evicted: &R
 fn sections_fit(picture: &Picture, evidence: &Evidence) -> Result<(), u8> {
     let network = Network::new(picture);
     if !forest_fits(&network, &evidence.forest, &NOTHING) {
-        return Err(fault::FOREST);
+        return Err(refusals::FOREST);
     }
     let before = network.served(&evidence.forest);
     if network.served_weight(&before) != evidence.served {
-        return Err(fault::SUM);
+        return Err(refusals::WEIGHT);
     }
     for section in &evidence.sections {
         let evicted = picture.block_locations(usize::from(section.block));
         if !forest_fits(&network, &section.forest, &evicted) {
-            return Err(fault::FOREST);
+            return Err(refusals::FOREST);
         }
         let cut = network.cut(&before, &network.served(&section.forest));
         if cut.loss != section.loss || cut.mark != section.mark {
-            return Err(fault::SUM);
+            return Err(refusals::WEIGHT);
         }
     }
     Ok(())
@@ -152,7 +152,7 @@ fn checked<'e>(picture: &[u8], evidence: &'e [u8]) -> Result<Evidence<'e>, u8> {
     if evidence.verdict_fits() {
         Ok(evidence)
     } else {
-        Err(fault::VERDICT)
+        Err(refusals::VERDICT)
     }
 }
 

@@ -1,6 +1,6 @@
 //! Weighing blocks, choosing one, and writing the evidence for it.
 
-use crate::fault;
+use crate::refusals;
 use crate::picture::{read, Picture};
 use crate::reach::{Cut, Forest, Network, NOTHING};
 
@@ -103,7 +103,7 @@ pub fn weigh(picture: &[u8], block: u32) -> Result<(u32, u32, u8), u8> {
 pub fn choose(picture: &[u8], evidence: &mut [u8]) -> Result<usize, u8> {
     let picture = read(picture)?;
     let length = evidence_bytes(picture.slots.len(), picture.candidates().len());
-    let written = evidence.get_mut(..length).ok_or(fault::BUFFER)?;
+    let written = evidence.get_mut(..length).ok_or(refusals::BUFFER)?;
     let plan = Plan::of(&picture);
     written.copy_from_slice(&plan.evidence(plan.least()));
     Ok(length)

@@ -2,7 +2,7 @@
 //! search a candidate. Another implementation is held against it, in results and in speed.
 //!
 //! Words are those of document 01, with origin for the office, endpoint for a cab and network for
-//! a farm. Refusals are the numbers of document 01, see [`fault`].
+//! a farm. Refusals are the numbers of document 01, see [`refusals`].
 
 #![deny(unsafe_code)]
 
@@ -10,7 +10,7 @@ pub mod acts;
 pub mod bits;
 pub mod check;
 pub mod choice;
-pub mod fault;
+pub mod refusals;
 pub mod listing;
 pub mod picture;
 pub mod reach;

@@ -3,7 +3,7 @@
 use std::ops::Range;
 
 use crate::bits::{BitReader, BitWriter};
-use crate::fault;
+use crate::refusals;
 
 pub const EDITION: u8 = 1;
 pub const HEADER_BYTES: usize = 7;
@@ -59,7 +59,7 @@ impl Picture {
     pub fn named_block(&self, block: u32) -> Result<Range<usize>, u8> {
         match usize::try_from(block) {
             Ok(block) if block < self.block_count() => Ok(self.block_locations(block)),
-            _ => Err(fault::BLOCK),
+            _ => Err(refusals::NO_BLOCK),
         }
     }
 
@@ -97,7 +97,7 @@ struct Header {
 impl Header {
     fn read(fields: &mut BitReader) -> Result<Header, u8> {
         if fields.byte(4) != EDITION {
-            return Err(fault::EDITION);
+            return Err(refusals::EDITION);
         }
         Ok(Header {
             block_size: fields.byte(4),
@@ -111,10 +111,10 @@ impl Header {
 
     fn judge(&self) -> Result<(), u8> {
         if !self.blocks_fit() {
-            return Err(fault::BLOCKS);
+            return Err(refusals::BLOCKS);
         }
         if self.endpoints > MAX_ENDPOINTS || self.links > MAX_LINKS || self.serving > MAX_LINKS {
-            return Err(fault::COUNTS);
+            return Err(refusals::COUNTS);
         }
         Ok(())
     }
@@ -136,19 +136,19 @@ impl Header {
 /// Reads a picture, or tells its first fault.
 pub fn read(bytes: &[u8]) -> Result<Picture, u8> {
     if bytes.len() < HEADER_BYTES {
-        return Err(fault::SHORT);
+        return Err(refusals::SHORT);
     }
     let mut fields = BitReader::new(bytes);
     let header = Header::read(&mut fields)?;
     header.judge()?;
     let length = header.picture_bytes();
     if bytes.len() < length {
-        return Err(fault::SHORT);
+        return Err(refusals::SHORT);
     }
     let picture = read_body(&mut fields, &header)?;
     let fill_width = fields.fill_width();
     if fields.field(fill_width) != 0 || bytes.len() > length {
-        return Err(fault::FILL);
+        return Err(refusals::FILL);
     }
     Ok(picture)
 }
@@ -176,7 +176,7 @@ fn read_slot(fields: &mut BitReader) -> Result<Slot, u8> {
         0 => State::Held,
         1 => State::Recoverable,
         2 => State::Freed,
-        _ => return Err(fault::STATE),
+        _ => return Err(refusals::STATE),
     };
     Ok(Slot { state, near: fields.field(1) == 1 })
 }
@@ -195,7 +195,7 @@ fn read_links(
     for _ in 0..count {
         let (first, second) = (fields.byte(8), fields.byte(8));
         if !names_what_is_there((usize::from(first), usize::from(second))) {
-            return Err(fault::LINK);
+            return Err(refusals::LINK);
         }
         links.push((first, second));
     }

@@ -4,7 +4,7 @@ use crate::choice::evidence_bytes;
 use crate::picture::State;
 use crate::picture::{MAX_BLOCKS, MAX_BLOCK_SIZE, MAX_ENDPOINTS, MAX_LINKS, MAX_SLOTS};
 use crate::samples::{all, case, case_a, files, longest, A_BYTES, A_EVIDENCE};
-use crate::{check, choose, evict, fault, free, listing, read, reload, show, weigh, write, Picture};
+use crate::{check, choose, evict, refusals, free, listing, read, reload, show, weigh, write, Picture};
 
 fn bytes_of(letter: char) -> Vec<u8> {
     write(&case(letter))
@@ -85,26 +85,28 @@ fn the_header_has_the_numbers() {
     for (name, value) in sizes {
         assert_eq!(number(&format!("BLOCKPLAN_{name}")), value, "{name}");
     }
+    let library = include_str!("../../crates/picture/src/refusals.rt");
     let refusals = [
-        ("SHORT", fault::SHORT),
-        ("EDITION", fault::EDITION),
-        ("BLOCKS", fault::BLOCKS),
-        ("COUNTS", fault::COUNTS),
-        ("STATE", fault::STATE),
-        ("LINK", fault::LINK),
-        ("FILL", fault::FILL),
-        ("NO_BLOCK", fault::BLOCK),
-        ("BUFFER", fault::BUFFER),
-        ("PROTECTED", fault::PROTECTED),
-        ("NO_CHANGE", fault::NOTHING),
-        ("NEAR", fault::NEAR_LIMIT),
-        ("FORM", fault::SHAPE),
-        ("FOREST", fault::FOREST),
-        ("WEIGHT", fault::SUM),
-        ("VERDICT", fault::VERDICT),
+        ("SHORT", refusals::SHORT),
+        ("EDITION", refusals::EDITION),
+        ("BLOCKS", refusals::BLOCKS),
+        ("COUNTS", refusals::COUNTS),
+        ("STATE", refusals::STATE),
+        ("LINK", refusals::LINK),
+        ("FILL", refusals::FILL),
+        ("NO_BLOCK", refusals::NO_BLOCK),
+        ("BUFFER", refusals::BUFFER),
+        ("PROTECTED", refusals::PROTECTED),
+        ("NO_CHANGE", refusals::NO_CHANGE),
+        ("NEAR", refusals::NEAR),
+        ("FORM", refusals::FORM),
+        ("FOREST", refusals::FOREST),
+        ("WEIGHT", refusals::WEIGHT),
+        ("VERDICT", refusals::VERDICT),
     ];
     for (name, value) in refusals {
         assert_eq!(number(&format!("BLOCKPLAN_REFUSED_{name}")), usize::from(value), "{name}");
+        assert!(library.contains(&format!("pub const {name}: u8 = {value};")), "{name}");
     }
 }
 
@@ -156,13 +158,13 @@ fn numbers_1_to_7_by_example() {
     let link_to_5 = write(&Picture { links: vec![(0, 1), (0, 2), (1, 3), (0, 5)], ..case_a() });
     let spare_byte = [&A_BYTES[..], &[0]].concat();
     let examples = [
-        (fault::SHORT, Vec::new()),
-        (fault::EDITION, changed(0, 0x22)),
-        (fault::BLOCKS, changed(0, 0x13)),
-        (fault::COUNTS, changed(3, 201)),
-        (fault::STATE, changed(7, 0xE4)),
-        (fault::LINK, link_to_5),
-        (fault::FILL, spare_byte),
+        (refusals::SHORT, Vec::new()),
+        (refusals::EDITION, changed(0, 0x22)),
+        (refusals::BLOCKS, changed(0, 0x13)),
+        (refusals::COUNTS, changed(3, 201)),
+        (refusals::STATE, changed(7, 0xE4)),
+        (refusals::LINK, link_to_5),
+        (refusals::FILL, spare_byte),
     ];
     for (number, picture) in examples {
         let mut kept = picture.clone();
@@ -181,17 +183,17 @@ fn numbers_1_to_7_by_example() {
 
 #[test]
 fn numbers_8_to_12_by_example() {
-    assert_eq!(weigh(&A_BYTES, 2), Err(fault::BLOCK));
+    assert_eq!(weigh(&A_BYTES, 2), Err(refusals::NO_BLOCK));
     let mut buffer = [0xEE; 42];
-    assert_eq!(choose(&A_BYTES, &mut buffer), Err(fault::BUFFER));
+    assert_eq!(choose(&A_BYTES, &mut buffer), Err(refusals::BUFFER));
     assert_eq!(buffer, [0xEE; 42]);
     let mut picture = A_BYTES;
-    assert_eq!(evict(&mut picture, 0), Err(fault::PROTECTED));
-    assert_eq!(free(&mut picture, 0), Err(fault::PROTECTED));
-    assert_eq!(reload(&mut picture, 0), Err(fault::NOTHING));
+    assert_eq!(evict(&mut picture, 0), Err(refusals::PROTECTED));
+    assert_eq!(free(&mut picture, 0), Err(refusals::PROTECTED));
+    assert_eq!(reload(&mut picture, 0), Err(refusals::NO_CHANGE));
     assert_eq!(picture, A_BYTES);
     let mut evicted = bytes_of('K');
-    assert_eq!(reload(&mut evicted, 1), Err(fault::NEAR_LIMIT));
+    assert_eq!(reload(&mut evicted, 1), Err(refusals::NEAR));
     assert_eq!(evicted, bytes_of('K'));
 }
 
@@ -202,10 +204,10 @@ fn numbers_13_to_16_by_example() {
         bytes[place] = value;
         bytes
     };
-    assert_eq!(check(&A_BYTES, &[]), Err(fault::SHAPE));
-    assert_eq!(check(&A_BYTES, &changed(16, 2)), Err(fault::FOREST));
-    assert_eq!(check(&A_BYTES, &changed(20, 29)), Err(fault::SUM));
-    assert_eq!(check(&A_BYTES, &changed(0, 0x10)), Err(fault::VERDICT));
+    assert_eq!(check(&A_BYTES, &[]), Err(refusals::FORM));
+    assert_eq!(check(&A_BYTES, &changed(16, 2)), Err(refusals::FOREST));
+    assert_eq!(check(&A_BYTES, &changed(20, 29)), Err(refusals::WEIGHT));
+    assert_eq!(check(&A_BYTES, &changed(0, 0x10)), Err(refusals::VERDICT));
 }
 
 #[test]
@@ -218,18 +220,18 @@ fn limits_are_those_of_the_document() {
     };
     assert_eq!(header(1, 60, 200), Ok(()));
     assert_eq!(header(8, 240, 0), Ok(()));
-    assert_eq!(header(1, 61, 0), Err(fault::BLOCKS));
-    assert_eq!(header(9, 9, 0), Err(fault::BLOCKS));
-    assert_eq!(header(0, 4, 0), Err(fault::BLOCKS));
-    assert_eq!(header(1, 0, 0), Err(fault::BLOCKS));
-    assert_eq!(header(1, 60, 201), Err(fault::COUNTS));
+    assert_eq!(header(1, 61, 0), Err(refusals::BLOCKS));
+    assert_eq!(header(9, 9, 0), Err(refusals::BLOCKS));
+    assert_eq!(header(0, 4, 0), Err(refusals::BLOCKS));
+    assert_eq!(header(1, 0, 0), Err(refusals::BLOCKS));
+    assert_eq!(header(1, 60, 201), Err(refusals::COUNTS));
     assert_eq!(evidence_bytes(240, 60), 29589);
 }
 
 #[test]
 fn serving_without_endpoints_is_refused() {
     let picture = Picture { endpoints: Vec::new(), ..case_a() };
-    assert_eq!(read(&write(&picture)), Err(fault::LINK));
+    assert_eq!(read(&write(&picture)), Err(refusals::LINK));
 }
 
 #[test]
@@ -243,7 +245,7 @@ fn acts_change_the_named_states_only() {
     assert_eq!(free(&mut bytes, 1), Ok(()));
     picture.slots[2].state = State::Freed;
     assert_eq!(read(&bytes), Ok(picture));
-    assert_eq!(free(&mut bytes, 1), Err(fault::NOTHING));
+    assert_eq!(free(&mut bytes, 1), Err(refusals::NO_CHANGE));
 }
 
 #[test]
@@ -259,7 +261,7 @@ fn a_slot_of_depth_0_is_no_parent() {
     // Only the cycle 1-3-1: slot 3 hangs on slot 1, which is not reached.
     let mut evidence = evidence_of(&bytes_of('I'));
     evidence[13..15].copy_from_slice(&[1, 1]);
-    assert_eq!(check(&bytes_of('I'), &evidence), Err(fault::FOREST));
+    assert_eq!(check(&bytes_of('I'), &evidence), Err(refusals::FOREST));
 }
 
 #[test]
@@ -267,7 +269,7 @@ fn shape_comes_before_every_forest() {
     let mut evidence = A_EVIDENCE;
     evidence[16] = 2;
     evidence[34] = 2;
-    assert_eq!(check(&A_BYTES, &evidence), Err(fault::SHAPE));
+    assert_eq!(check(&A_BYTES, &evidence), Err(refusals::FORM));
 }
 
 #[test]

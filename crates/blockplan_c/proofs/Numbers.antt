@@ -1,6 +1,7 @@
 -- A refusal's number in 32 bits with a sign. Assumes nothing.
 use mathlib.Core.Path.{_≡_, refl, ap, _∙_, subst, sym}
 use mathlib.Core.Bool.{Bool, cond}
+use mathlib.Core.List.{[], _∷_}
 use Prim.Native.Nat.{ℕ, zero, suc, _-_, _<_}
 use native.Mathlib.Omega.{arith}
 use borrow.Author.Tests.{lt-ltb}
@@ -8,6 +9,7 @@ use lib.IntN.{ℤ, pos, negsuc, negℤ, _-ℤ_}
 use mir.Syntax.{w32}
 use mir.Val.{SFits, toZ, ofZ}
 use mir.Facts.{toZ-ofZ, toZ-pos}
+use Rattle.blockplan_c.specs.Answers.{toC}
 
 -- nothing less a number
 minus : (n : ℕ) → pos 0 -ℤ pos n ≡ negℤ (pos n)
@@ -40,3 +42,9 @@ module _ (n : ℕ) (l : n < 256) where
 -- a number that fits is handed on as it is
 pub passed-on : {z y : ℤ} → SFits w32 z → z ≡ y → (toZ w32 (ofZ w32 z) ≡ y) × SFits w32 (toZ w32 (ofZ w32 z))
 passed-on f e = (toZ-ofZ f ∙ e, subst (SFits w32) (sym (toZ-ofZ f)) f)
+
+-- a refusal is minus its number, and 0 would be 0
+pub refused-number : (k : ℕ) → negℤ (pos k) ≡ toC (k ∷ [])
+unfolding toC
+refused-number zero = refl
+refused-number (suc k) = refl

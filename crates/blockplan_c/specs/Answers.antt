@@ -1,20 +1,12 @@
--- What the calls for C answer: "A check that passes and an act that is done return 0; to C a refusal is minus its number". Assumes nothing.
+-- What the calls for C answer: "A check that passes and an act that is done return 0; to C a refusal is minus its number", and choose "returns
+-- its length". Assumes nothing.
+use mathlib.Core.List.{List, [], _∷_}
+use Prim.Native.Nat.{ℕ, zero, suc}
 use lib.IntN.{ℤ, pos, negℤ}
-use Rattle.choose.specs.declared.Choosing.{Choosing}
-use Rattle.choose.specs.declared.Choosing.the-variants.{Length, Refused as Unchosen}
-use Rattle.checker.specs.declared.Checking.{Checking}
-use Rattle.checker.specs.declared.Checking.the-variants.{Passed, Refused as Unpassed}
-use Rattle.acts.specs.declared.Acting.{Acting}
-use Rattle.acts.specs.declared.Acting.the-variants.{Done, Refused as Undone}
 
-unfoldable pub choosingNumber : Choosing → ℤ
-choosingNumber (Length size) = pos size
-choosingNumber (Unchosen k) = negℤ (pos k)
-
-unfoldable pub checkingNumber : Checking → ℤ
-checkingNumber Passed = pos 0
-checkingNumber (Unpassed k) = negℤ (pos k)
-
-unfoldable pub actingNumber : Acting → ℤ
-actingNumber Done = pos 0
-actingNumber (Undone k) = negℤ (pos k)
+-- one number for 01's number and values of an answer
+unfoldable pub toC : List ℕ → ℤ
+toC [] = pos 0
+toC (zero ∷ []) = pos 0
+toC (zero ∷ v ∷ vs) = pos v
+toC (suc k ∷ vs) = negℤ (pos (suc k))

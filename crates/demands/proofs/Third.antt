@@ -66,6 +66,34 @@ module _ (bs : List ℕ) (ok : pictureFault bs ≡ 0) {b l : ℕ} (n : LeastAdmi
             (served-weight (accepted-named bs ok) (isHeld p));
       })
 
+-- ---- what the calls answer
+
+chooses : (bs buf : List ℕ) → chooseFault bs buf ≡ 0 → Chooses bs buf
+unfolding outcome
+chooses bs buf z = choosing-numbers bs buf ∙ ap (λ (k : ℕ). outcome k (lengthFor bs ∷ [])) z
+
+checks : (bs ev : List ℕ) → checkFault bs ev ≡ 0 → Checks bs ev
+unfolding outcome checking checkingOf
+checks bs ev z = record { number = checking-numbers bs ev ∙ ap (λ (k : ℕ). outcome k []) z; unrefused = λ k e. absurd (never k (ap checkingOf (sym z) ∙ e)) }
+  where
+    never : (k : ℕ) → Passed ≡ Unpassed k → ⊥
+    never k q = let z : _≡_ {A = ℕ} 0 1 = cc in omega arith
+
+-- an answer of 0 is of evidence without a fault
+checked : (bs ev : List ℕ) → checkingNumbers (checking bs ev) ≡ 0 ∷ [] → checkFault bs ev ≡ 0
+checked bs ev e = outcome-zero (checkFault bs ev) (sym (checking-numbers bs ev) ∙ e)
+  where
+    outcome-zero : (k : ℕ) → outcome k [] ≡ 0 ∷ [] → k ≡ 0
+    outcome-zero zero e = refl
+    outcome-zero (suc k) e = unfold outcome in ap (λ (l : List ℕ). getD l 0 0) e
+
+evicts : (bs : List ℕ) (b : ℕ) → actFault Evict bs b ≡ 0 → Evicts bs b
+unfolding outcome acting actingOf
+evicts bs b z = record { number = acting-numbers Evict bs b ∙ ap (λ (k : ℕ). outcome k []) z; unrefused = λ k e. absurd (never k (ap actingOf (sym z) ∙ e)) }
+  where
+    never : (k : ℕ) → Done ≡ Undone k → ⊥
+    never k q = let z : _≡_ {A = ℕ} 0 1 = cc in omega arith
+
 -- ---- what choose writes
 
 written-fixed : (bs buf : List ℕ) → chooseFault bs buf ≡ 0 → written bs buf ≡ evidenceOf bs
@@ -75,10 +103,9 @@ written-fixed bs buf z = chosen-evidence bs buf z
 -- ---- all of it
 
 fixed-proves : (bs : List ℕ) → pictureFault bs ≡ 0 → Proves bs (evidenceOf bs)
-unfolding verdictIn blockIn lossIn
 fixed-proves bs ok =
     let ev = evidenceOf bs in
-    let passing = check-passes bs ev (canonical-passes bs ok) in
+    let passing = own-passes bs ok in
     let right = passing .verdict in
     record {
       none-cuts = none-all right;
@@ -91,16 +118,18 @@ fixed-proves bs ok =
             admissible = n .admissible;
             loss = n .stated;
             least = n .least;
-            evicts = evicts-named bs ok n;
+            lowest = lowest-named bs ok m;
+            evicts = evicts bs _ (evicts-named bs ok n);
+            accepted = accepted-named-after bs ok n;
             lowers = lowers-named bs ok n;
           };
       fixed = refl;
-      passes = canonical-passes bs ok;
-      verdicts = λ other z. same-verdict (check-passes bs other z) passing .0;
-      losses = λ other z. same-verdict (check-passes bs other z) passing .1;
+      passes = checks bs ev (canonical-passes bs ok);
+      verdicts = λ other z. same-verdict (check-passes bs other (checked bs other z)) passing .0;
+      losses = λ other z. same-verdict (check-passes bs other (checked bs other z)) passing .1;
     }
 
 pub third-demand : ThirdDemand
 third-demand bs buf ok fits =
     let z = choose-takes bs buf ok fits in
-    (z, rw (written-fixed bs buf z) (fixed-proves bs ok))
+    (chooses bs buf z, rw (written-fixed bs buf z) (fixed-proves bs ok))

@@ -1,5 +1,6 @@
--- The owner's third demand, sentence by sentence, over the definitions that the contracts of the calls cite. Assumes nothing.
-use mathlib.Core.List.{List}
+-- The owner's third demand, sentence by sentence, over the definitions that the contracts of the calls cite. What choose, check and evict
+-- answer is said by document 01's number and values. Assumes nothing.
+use mathlib.Core.List.{List, [], _∷_}
 use mathlib.Core.Logic.{_≢_}
 use mathlib.Core.Path.{_≡_}
 use Prim.Native.Nat.{ℕ, _+_, _≤_}
@@ -8,24 +9,48 @@ use Rattle.picture.specs.Picture.{Picture, pictureOf}
 use Rattle.picture.specs.Faults.{pictureFault}
 use Rattle.network.specs.Words.{isHeld, ServedWeight, Loss, CutsProtected, Candidate, Admissible}
 use Rattle.evidence.specs.Canonical.{evidenceOf}
-use Rattle.evidence.specs.Checks.{headIn, checkFault}
-use Rattle.evidence.specs.Calls.{lengthFor, chooseFault, chosenBytes}
+use Rattle.evidence.specs.Checks.{headIn}
+use Rattle.evidence.specs.Calls.{lengthFor, chosenBytes}
+use Rattle.choose.specs.Answers.{choosing, choosingNumbers}
+use Rattle.checker.specs.declared.Checking.the-variants.{Refused as Unpassed}
+use Rattle.checker.specs.Answers.{checking, checkingNumbers}
 use Rattle.acts.specs.declared.Act.the-variants.{Evict}
-use Rattle.acts.specs.Acts.{actFault, actBytes}
+use Rattle.acts.specs.declared.Acting.the-variants.{Refused as Undone}
+use Rattle.acts.specs.Acts.{acting, actingNumbers, actBytes}
+
+-- ---- what the calls answer
+
+-- choose gives the evidence's length
+abbrev pub Chooses : List ℕ → List ℕ → Type 0
+Chooses bs buf = choosingNumbers (choosing bs buf) ≡ 0 ∷ lengthFor bs ∷ []
+
+-- check passes: it answers 0, and no refusal
+pub record Checks (bs ev : List ℕ) : Type 0 where
+  pub number : checkingNumbers (checking bs ev) ≡ 0 ∷ []
+  pub unrefused : (k : ℕ) → checking bs ev ≢ Unpassed k
+
+-- evicting b is done: it answers 0, and no refusal
+pub record Evicts (bs : List ℕ) (b : ℕ) : Type 0 where
+  pub number : actingNumbers (acting Evict bs b) ≡ 0 ∷ []
+  pub unrefused : (k : ℕ) → acting Evict bs b ≢ Undone k
+
+-- ---- what the evidence says
 
 -- "the evidence written is its first bytes up to that length": those of the buffer that choose leaves
 unfoldable pub written : List ℕ → List ℕ → List ℕ
 written bs buf = take (lengthFor bs) (chosenBytes bs buf)
 
 -- "the fields verdict, block and loss at the start of that evidence"
-unfoldable pub verdictIn : List ℕ → ℕ
+abbrev pub verdictIn : List ℕ → ℕ
 verdictIn ev = headIn ev .verdict
 
-unfoldable pub blockIn : List ℕ → ℕ
+abbrev pub blockIn : List ℕ → ℕ
 blockIn ev = headIn ev .block
 
-unfoldable pub lossIn : List ℕ → ℕ
+abbrev pub lossIn : List ℕ → ℕ
 lossIn ev = headIn ev .loss
+
+-- ---- the demand
 
 -- a picture's served weight
 abbrev pub Serves : Picture → ℕ → Type 0
@@ -50,8 +75,11 @@ pub record Names (bs ev : List ℕ) : Type 0 where
   pub loss : Loss (pictureOf bs) (blockIn ev) (lossIn ev)
   -- "and every other candidate that cuts none loses at least as much weight"
   pub least : (b : ℕ) → Candidate (pictureOf bs) b → Admissible (pictureOf bs) b → (w : ℕ) → Loss (pictureOf bs) b w → lossIn ev ≤ w
-  -- "Evicting the block from this picture is done"
-  pub evicts : actFault Evict bs (blockIn ev) ≡ 0
+  -- 01: "the lowest number among equals"
+  pub lowest : (b : ℕ) → Candidate (pictureOf bs) b → Admissible (pictureOf bs) b → Loss (pictureOf bs) b (lossIn ev) → blockIn ev ≤ b
+  -- "Evicting the block from this picture is done", and the picture afterwards is accepted
+  pub evicts : Evicts bs (blockIn ev)
+  pub accepted : pictureFault (actBytes Evict bs (blockIn ev)) ≡ 0
   pub lowers : Lowers (pictureOf bs) (pictureOf (actBytes Evict bs (blockIn ev))) (lossIn ev)
 
 -- what holds of the evidence written
@@ -65,11 +93,11 @@ pub record Proves (bs ev : List ℕ) : Type 0 where
   -- "The evidence written equals, byte for byte, the one that document 01 fixes"
   pub fixed : ev ≡ evidenceOf bs
   -- "and it passes the check for this picture"
-  pub passes : checkFault bs ev ≡ 0
+  pub passes : Checks bs ev
   -- "Whatever other evidence passes for this picture, from any maker, has the same verdict and the same loss"
-  pub verdicts : (other : List ℕ) → checkFault bs other ≡ 0 → verdictIn other ≡ verdictIn ev
-  pub losses : (other : List ℕ) → checkFault bs other ≡ 0 → lossIn other ≡ lossIn ev
+  pub verdicts : (other : List ℕ) → checkingNumbers (checking bs other) ≡ 0 ∷ [] → verdictIn other ≡ verdictIn ev
+  pub losses : (other : List ℕ) → checkingNumbers (checking bs other) ≡ 0 ∷ [] → lossIn other ≡ lossIn ev
 
--- "Suppose a picture is accepted and the buffer is long enough": then choose refuses nothing, and all of that holds
+-- "Suppose a picture is accepted and the buffer is long enough": then choose answers, and all of that holds
 abbrev pub ThirdDemand : Type 0
-ThirdDemand = (bs buf : List ℕ) → pictureFault bs ≡ 0 → lengthFor bs ≤ length buf → (chooseFault bs buf ≡ 0) × Proves bs (written bs buf)
+ThirdDemand = (bs buf : List ℕ) → pictureFault bs ≡ 0 → lengthFor bs ≤ length buf → Chooses bs buf × Proves bs (written bs buf)

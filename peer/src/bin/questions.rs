@@ -14,13 +14,12 @@ use peer::{check, choose, evict, free, reload, show, weigh, write};
 const DEFAULT_SEED: u64 = 77;
 /// Networks of each shape; in the last of them a bit is turned over.
 const ROUNDS: usize = 5;
-/// Longer than the evidence of a small network.
+/// Longer than the evidence of a small network, and what the buffer holds before.
 const ROOM: usize = 500;
+const BEFORE: u8 = 0xEE;
 
 type Act = fn(&mut [u8], u32) -> Result<(), u8>;
 const ACTS: [(&str, Act); 3] = [("Evict", evict), ("Reload", reload), ("Free", free)];
-/// The bytes of a picture that a row about an act tells.
-const TOLD: std::ops::Range<usize> = 7..9;
 
 struct Table {
     rows: Vec<String>,
@@ -52,14 +51,23 @@ fn numbers(bytes: &[u8]) -> Vec<u32> {
 
 fn ask(table: &mut Table, random: &mut Random, picture: &Picture, bytes: &[u8], round: usize) {
     let name = list(bytes);
-    let mut buffer = vec![0; ROOM];
+    let mut buffer = vec![BEFORE; ROOM];
     let Ok(length) = choose(bytes, &mut buffer) else {
-        table.add(format!("fault {name}"), &[u32::from(peer::read(bytes).expect_err("a fault"))]);
+        table.add(format!("read {name}"), &[u32::from(peer::read(bytes).expect_err("a fault"))]);
         return;
     };
     let evidence = &buffer[..length];
-    table.add(format!("evidence {name} {ROOM}"), &numbers(evidence));
-    table.add(format!("choose {name} {}", length - 1), &[9, length as u32]);
+    for room in [ROOM, length - 1] {
+        let mut lent = vec![BEFORE; room];
+        let answer = match choose(bytes, &mut lent) {
+            Ok(length) => vec![0, length as u32],
+            Err(number) => vec![u32::from(number)],
+        };
+        table.add(
+            format!("choose {name} (replicate {room} {BEFORE}) {room}"),
+            &[answer, numbers(&lent)].concat(),
+        );
+    }
     for block in 0..=picture.block_count() as u32 {
         let weighed =
             weigh(bytes, block).map(|(served, loss, mark)| vec![served, loss, u32::from(mark)]);
@@ -81,10 +89,9 @@ fn ask(table: &mut Table, random: &mut Random, picture: &Picture, bytes: &[u8], 
         let block = random.below(picture.block_count()) as u32;
         let mut lent = bytes.to_vec();
         let number = call(&mut lent, block).err().unwrap_or(0);
-        let told = &lent[TOLD.start..TOLD.end.min(lent.len())];
         table.add(
             format!("act {act} {name} {block}"),
-            &[vec![u32::from(number)], numbers(told)].concat(),
+            &[vec![u32::from(number)], numbers(&lent)].concat(),
         );
     }
 }

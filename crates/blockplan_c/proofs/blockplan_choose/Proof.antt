@@ -1,7 +1,9 @@
 -- `blockplan_choose` is one call, and answers its number. Assumes nothing.
 use mathlib.Core.Path.{sym, ap, _∙_}
-use Rattle.blockplan_c.specs.Answers.{choosingNumber}
-use Rattle.blockplan_c.proofs.Numbers.{passed-on}
+use Rattle.choose.specs.declared.Choosing.{Choosing}
+use Rattle.choose.specs.Answers.{choosingNumbers}
+use Rattle.blockplan_c.specs.Answers.{toC}
+use Rattle.blockplan_c.proofs.Numbers.{passed-on, refused-number}
 use Rattle.blockplan_c.proofs.Lengths.{told-small}
 use borrow.Author.Needs.{needs}
 use Rattle.blockplan_c.proofs.blockplan_choose.Statement.{statement}
@@ -13,8 +15,8 @@ choose-requires c κs = search needs
 enum-known-length : tie.Need-enum-known-length
 enum-known-length c = search needs
 
-length-told-requires : tie.Need-length-told-requires
-length-told-requires c κs = told-small _ _ _ (sym (sym (c .before .length .given .1) ∙ c .before .before .before .before .before .choose .ensures .0))
+length-number-requires : tie.Need-length-number-requires
+length-number-requires c κs = told-small _ _ _ (sym (sym (c .before .length .given .1) ∙ c .before .before .before .before .before .choose .ensures .0))
 
 enum-known-number : tie.Need-enum-known-number
 enum-known-number c = search needs
@@ -26,19 +28,19 @@ same-length : tie.Need-same-length
 same-length c = search needs
 
 returns : tie.Need-returns
-unfolding choosingNumber
+unfolding toC choosingNumbers
 returns c =
     let k = c .before .before .before .before .before .before .choose .ensures in
-    (passed-on (c .length-told .ensures .1) (c .length-told .ensures .0 ∙ ap choosingNumber (sym (c .before .before .length .given .1) ∙ k .0)) .0, k .1)
+    (passed-on (c .length-number .ensures .1) (c .length-number .ensures .0 ∙ ap (λ (x : Choosing). toC (choosingNumbers x)) (sym (c .before .before .length .given .1) ∙ k .0)) .0, k .2)
 
 same-length-2 : tie.Need-same-length-2
 same-length-2 c = search needs
 
 returns-2 : tie.Need-returns-2
-unfolding choosingNumber
+unfolding toC choosingNumbers
 returns-2 c =
     let k = c .before .before .before .before .before .before .choose .ensures in
-    (passed-on (c .refusal .ensures .1) (c .refusal .ensures .0 ∙ ap choosingNumber (sym (c .before .before .number .given .1) ∙ k .0)) .0, k .1)
+    (passed-on (c .refusal .ensures .1) (c .refusal .ensures .0 ∙ refused-number _ ∙ ap (λ (x : Choosing). toC (choosingNumbers x)) (sym (c .before .before .number .given .1) ∙ k .0)) .0, k .2)
 
 pub blockplan-choose-spec : {M : Type 1} → statement M
 blockplan-choose-spec =
@@ -46,7 +48,7 @@ blockplan-choose-spec =
     (tie.spec
     choose-requires
     enum-known-length
-    length-told-requires
+    length-number-requires
     enum-known-number
     refusal-requires
     same-length

@@ -1,4 +1,4 @@
-//! The numbers of the refusals, as document 01 lists them.
+//! The numbers of the refusals, as document 01 lists them, by the names of the header for C.
 
 pub const SHORT: u8 = 1;
 pub const EDITION: u8 = 2;
@@ -7,12 +7,12 @@ pub const COUNTS: u8 = 4;
 pub const STATE: u8 = 5;
 pub const LINK: u8 = 6;
 pub const FILL: u8 = 7;
-pub const BLOCK: u8 = 8;
+pub const NO_BLOCK: u8 = 8;
 pub const BUFFER: u8 = 9;
 pub const PROTECTED: u8 = 10;
-pub const NOTHING: u8 = 11;
-pub const NEAR_LIMIT: u8 = 12;
-pub const SHAPE: u8 = 13;
+pub const NO_CHANGE: u8 = 11;
+pub const NEAR: u8 = 12;
+pub const FORM: u8 = 13;
 pub const FOREST: u8 = 14;
-pub const SUM: u8 = 15;
+pub const WEIGHT: u8 = 15;
 pub const VERDICT: u8 = 16;
