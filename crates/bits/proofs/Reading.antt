@@ -46,7 +46,8 @@ pub bitAt-lt : (bs : List ℕ) (i : ℕ) → bitAt bs i < 2
 unfolding bitAt
 bitAt-lt bs i = mod-lt (getD bs (i / 8) 0 / 2 ^ (7 - i % 8)) (zero-lt-suc 1)
 
-number-lt : (f : ℕ → ℕ) → ((i : ℕ) → f i < 2) → (w : ℕ) → number f w < 2 ^ w
+-- a number made of binary digits
+pub number-lt : (f : ℕ → ℕ) → ((i : ℕ) → f i < 2) → (w : ℕ) → number f w < 2 ^ w
 unfolding number
 number-lt f b zero = zero-lt-suc 0
 number-lt f b (suc w) = rw pow-suc (digits-lt (number-lt f b w) (b w))

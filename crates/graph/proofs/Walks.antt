@@ -2,8 +2,8 @@
 use mathlib.Core.Bool.{xor, _||_}
 use mathlib.Core.List.{List}
 use mathlib.Core.Logic.{_⊎_, by-cases, ⊎-elim}
-use mathlib.Core.Path.{_≡_, refl, ap, _∙_}
-use Prim.Native.Nat.{ℕ, zero, suc, _+_, _≤_, _<_, zero-le}
+use mathlib.Core.Path.{_≡_, ap, _∙_}
+use Prim.Native.Nat.{ℕ, _+_, _≤_, _<_, zero-le}
 use native.Mathlib.Omega.{arith}
 use native.Mathlib.Decide.{ℕ-discrete}
 use native.Mathlib.Numerals.{add-one}
@@ -15,10 +15,11 @@ use Rattle.graph.specs.Held.{heldIn, SlotsOnly}
 use Rattle.graph.specs.Steps.{Walked}
 use Rattle.graph.specs.Sweeps.{Locations, Ready, Swept}
 use Rattle.lists.proofs.Tests.{is-false, or-T, T-or-l, T-or-r, eq-T}
+use Rattle.lists.proofs.Picks.{zeros-at}
 use Rattle.graph.proofs.Chains.{chain-within, origin-fewest}
 use Rattle.graph.proofs.Forests.{fewest-reached}
 use Rattle.graph.proofs.Levels.{Levels, levels-begun, levels-next, levels-entry, levels-origin, taken-reached, reached-taken}
-use Rattle.rows.proofs.Marks.{with-origin, none-marked}
+use Rattle.rows.proofs.Marks.{with-origin, clear-row}
 use Rattle.graph.proofs.Held.{slot-held, held-within}
 
 -- d levels are walked
@@ -26,11 +27,6 @@ pub record Walking (links : List (List ℕ)) (held : List ℕ) (d : ℕ) (fronti
   pub low : d ≤ slotsMax
   pub ready : Ready fresh parent depth
   pub levels : Levels (linkedIn links) (heldIn held) d (marked frontier) (marked fresh) (λ v. getD parent v 0) (λ v. getD depth v 0)
-
-zeros-at : (n v : ℕ) → _≡_ {A = ℕ} (getD (replicate n 0) v 0) 0
-zeros-at zero v = refl
-zeros-at (suc n) zero = refl
-zeros-at (suc n) (suc v) = zeros-at n v
 
 module _ {links : List (List ℕ)} {held : List ℕ} (only : SlotsOnly held) where
   -- the frontier is the origin
@@ -57,7 +53,7 @@ module _ {links : List (List ℕ)} {held : List ℕ} (only : SlotsOnly held) whe
       origin-alone : (v : ℕ) → marked (set (replicate rowWords 0) 0 1) v ≡ eqb v 0
       origin-alone v =
           with-origin (replicate rowWords 0) (omega arith) v
-          ∙ ap (λ b. b || eqb v 0) (is-false (marked (replicate rowWords 0) v) (none-marked (replicate rowWords 0) rowWords (omega arith) (λ j h. zeros-at rowWords j) v))
+          ∙ ap (λ b. b || eqb v 0) (clear-row rowWords v)
 
   module _ {d : ℕ} {frontier fresh parent depth : List ℕ} (w : Walking links held d frontier fresh parent depth) where
     -- what the frontier marks ends a chain, so it is a location

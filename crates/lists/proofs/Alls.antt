@@ -8,14 +8,11 @@ use native.Mathlib.Nat.{add-zero, add-suc, suc-add}
 use lib.Dec.{T}
 use lib.ListN.{length, getD}
 use Rattle.lists.specs.Lists.{range, all}
-use Rattle.lists.proofs.Tests.{all-at, is-false}
+use Rattle.lists.proofs.Tests.{all-at, is-false, true-T}
+pub use Rattle.lists.proofs.Tests.{is-true}
 use Rattle.lists.proofs.Ranges.{length-range}
 use Rattle.lists.proofs.Every.{range-all as every}
 use Rattle.lists.proofs.Picks.{getD-range}
-
-pub is-true : (b : Bool) → T b → b ≡ true
-is-true true t = refl
-is-true false t = absurd t
 
 -- one that fails at some place does not
 pub all-wrong : {A : Type 0} (d : A) (f : A → Bool) (l : List A) (i : ℕ) → i < length l → f (getD l i d) ≡ false → all f l ≡ false
@@ -24,7 +21,7 @@ all-wrong d f l i h e = is-false (all f l) (λ t. subst T e (all-at f l t i h d)
 -- the same over a range
 module _ (f : ℕ → Bool) (i k : ℕ) where
   pub range-all : ((u : ℕ) → i ≤ u → u < i + k → f u ≡ true) → T (all f (range i k))
-  range-all h = every f i k (λ u l s. rw (h u l s) tt)
+  range-all h = every f i k (λ u l s. true-T (h u l s))
 
   pub range-wrong : (u : ℕ) → i ≤ u → u < i + k → f u ≡ false → all f (range i k) ≡ false
   range-wrong u l h e = go (u - i) (omega arith)

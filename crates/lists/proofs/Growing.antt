@@ -2,6 +2,7 @@
 use mathlib.Core.Path.{_≡_, refl, sym, ap, _∙_}
 use mathlib.Core.Bool.{Bool, true, false, cond}
 use mathlib.Core.List.{List, [], _∷_, _++_, map, append-assoc, append-nil}
+pub use mathlib.Core.List.{map-append}
 use Prim.Native.Nat.{ℕ, zero, suc, _+_, _-_, _≤_}
 use native.Mathlib.Omega.{arith}
 use native.Mathlib.Nat.{add-zero, add-suc, suc-add}
@@ -27,10 +28,6 @@ module _ {A : Type 0} where
   unfolding flat
   flat-append [] ys = refl
   flat-append (x ∷ xs) ys = ap (λ (l : List A). x ++ l) (flat-append xs ys) ∙ sym (append-assoc x (flat xs) (flat ys))
-
-pub map-append : {A B : Type 0} (f : A → B) (xs ys : List A) → map f (xs ++ ys) ≡ map f xs ++ map f ys
-map-append f [] ys = refl
-map-append {A} {B} f (x ∷ xs) ys = ap (λ (l : List B). f x ∷ l) (map-append f xs ys)
 
 -- the next number passes the test, or it does not
 pub filter-more : (f : ℕ → Bool) (i k : ℕ) → filter f (range i (suc k)) ≡ filter f (range i k) ++ cond (f (i + k)) ((i + k) ∷ []) []

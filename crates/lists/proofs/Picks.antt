@@ -9,9 +9,10 @@ use native.Mathlib.Omega.{arith}
 use native.Mathlib.Decide.{decLt}
 use native.Mathlib.Nat.{add-zero, add-suc, suc-add, le-of-suc-le-suc, not-suc-le-zero}
 use lib.Dec.{T}
-use lib.ListN.{length, getD, List·getD-eq-default}
+use lib.ListN.{length, getD, replicate, List·getD-eq-default}
 use Rattle.lists.specs.Lists.{range, on, sum, item, filter}
 pub use Rattle.lists.specs.Lists.{Placed}
+use Rattle.lists.proofs.Tests.{true-T}
 use Rattle.lists.proofs.Ranges.{length-range, InRange}
 
 -- ---- an element by its number
@@ -26,6 +27,18 @@ item-inside {A} l (suc i) d = go (decLt i (length l))
     go (yes h) = inl (suc-le-suc zero-le, h)
     go (no h) = inr (List·getD-eq-default l d (omega arith))
 
+-- an element of a mapped list
+pub map-at : {A B : Type 0} (f : A → B) (d : B) (z : A) (l : List A) (i : ℕ) → i < length l → getD (map f l) i d ≡ f (getD l i z)
+map-at f d z [] i h = absurd (not-suc-le-zero h)
+map-at f d z (x ∷ l) zero h = refl
+map-at f d z (x ∷ l) (suc i) h = map-at f d z l i (le-of-suc-le-suc h)
+
+-- in a list of zeros, and past its end, there is nothing else
+pub zeros-at : (n i : ℕ) → getD {A = ℕ} (replicate n 0) i 0 ≡ 0
+zeros-at zero i = refl
+zeros-at (suc n) zero = refl
+zeros-at (suc n) (suc i) = zeros-at n i
+
 -- ---- the elements that a filter leaves
 
 module _ {A : Type 0} (d : A) (f : A → Bool) where
@@ -37,7 +50,7 @@ module _ {A : Type 0} (d : A) (f : A → Bool) where
     where
       go : (b : Bool) → f x ≡ b → (j : ℕ) → j < length (cond b (x ∷ filter f l) (filter f l)) → ((m : ℕ) → m < length (filter f l) → T (f (getD (filter f l) m d)))
           → T (f (getD (cond b (x ∷ filter f l) (filter f l)) j d))
-      go true e zero h ih = subst T (sym e) tt
+      go true e zero h ih = true-T e
       go true e (suc j) h ih = ih j (le-of-suc-le-suc h)
       go false e j h ih = ih j h
 

@@ -1,9 +1,9 @@
 -- Laws of ranges. Assumes nothing.
-use mathlib.Core.Path.{_≡_, refl, sym, ap, _∙_, subst}
+use mathlib.Core.Path.{_≡_, refl, sym, ap, ap₂, _∙_, subst}
 use mathlib.Core.Bool.{Bool}
 use mathlib.Core.Logic.{_⊎_, inl, inr}
-use mathlib.Core.List.{map}
-use Prim.Native.Nat.{ℕ, zero, suc, _+_, _<_, _≤_}
+use mathlib.Core.List.{List, _∷_, map}
+use Prim.Native.Nat.{ℕ, zero, suc, _+_, _<_, _≤_, zero-le, suc-le-suc}
 use native.Mathlib.Omega.{arith}
 use native.Mathlib.Decide.{ℕ-discrete}
 use native.Mathlib.Nat.{add-zero, add-suc, suc-add, le-of-suc-le-suc, not-suc-le-zero}
@@ -22,6 +22,14 @@ unfolding range
 getD-map-range f d i zero j h = absurd (not-suc-le-zero h)
 getD-map-range f d i (suc k) zero h = ap f (sym (add-zero i))
 getD-map-range f d i (suc k) (suc j) h = getD-map-range f d (suc i) k j (le-of-suc-le-suc h) ∙ ap f (suc-add i j ∙ sym (add-suc i j))
+
+-- two functions that agree place by place give the same list
+pub map-range-same : {A : Type 0} (f g : ℕ → A) (i j k : ℕ) → ((m : ℕ) → m < k → f (i + m) ≡ g (j + m)) → map f (range i k) ≡ map g (range j k)
+unfolding range
+map-range-same f g i j zero h = refl
+map-range-same {A} f g i j (suc k) h =
+    ap₂ {C = List A} (λ (x : A) (l : List A). x ∷ l) (ap f (sym (add-zero i)) ∙ h 0 (suc-le-suc zero-le) ∙ ap g (add-zero j))
+    (map-range-same f g (suc i) (suc j) k (λ m s. ap f (suc-add i m ∙ sym (add-suc i m)) ∙ h (suc m) (suc-le-suc s) ∙ ap g (add-suc j m ∙ sym (suc-add j m))))
 
 -- a number of the range that passes the test
 pub record InRange (f : ℕ → Bool) (i k : ℕ) : Type 0 where

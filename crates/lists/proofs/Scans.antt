@@ -1,21 +1,17 @@
 -- Scans of a range, one number at a time: whether any passes a test, and how many do. Assumes nothing.
-use mathlib.Core.Path.{_≡_, refl, sym, ap, _∙_, subst}
+use mathlib.Core.Path.{_≡_, refl, sym, ap, _∙_}
 use mathlib.Core.Bool.{Bool, true, false, _||_, cond}
 use mathlib.Core.List.{List, [], _∷_}
 use Prim.Native.Nat.{ℕ, zero, suc, _+_, _<_, _≤_}
 use native.Mathlib.Omega.{arith}
 use native.Mathlib.Nat.{add-zero, add-suc, suc-add}
 use native.Mathlib.Numerals.{add-one}
-use lib.Dec.{T}
 use lib.ListN.{length}
 use Rattle.lists.specs.Lists.{range, on, any, filter}
+use Rattle.lists.proofs.Tests.{true-T, is-true}
 use Rattle.lists.proofs.Ranges.{length-range, range-any}
 use Rattle.lists.proofs.Filters.{length-filter-le}
 use Rattle.lists.proofs.Ends.{any-more}
-
-true-T : (b : Bool) → T b → true ≡ b
-true-T true t = refl
-true-T false t = absurd t
 
 neither : {a b : Bool} → a ≡ false → b ≡ false → (a || b) ≡ false
 neither e f = rw (e, f)
@@ -31,7 +27,7 @@ module _ (f : ℕ → Bool) (i : ℕ) where
   none-more k e g = ap (λ (j : ℕ). any f (range i j)) (add-one k) ∙ any-more f i k ∙ neither e g
 
   pub some-found : (k n : ℕ) → k < n → f (i + k) ≡ true → true ≡ any f (range i n)
-  some-found k n l e = true-T _ (range-any f i n (record { number = i + k; from = omega arith; below = omega arith; passes = subst T (sym e) tt }))
+  some-found k n l e = sym (is-true _ (range-any f i n (record { number = i + k; from = omega arith; below = omega arith; passes = true-T e })))
 
 -- ---- how many pass
 

@@ -1,5 +1,5 @@
 -- The first element of a list that passes a test: that it passes, that none before it does, and its bounds. Assumes nothing.
-use mathlib.Core.Path.{_≡_, refl, sym, subst}
+use mathlib.Core.Path.{_≡_, refl, subst}
 use mathlib.Core.Bool.{Bool, true, false, _||_, cond}
 use mathlib.Core.List.{List, [], _∷_}
 use Prim.Native.Nat.{ℕ, zero, suc, _+_, _<_, _≤_, zero-le, suc-le-suc}
@@ -9,6 +9,7 @@ use native.Mathlib.Nat.{le-of-suc-le-suc, not-suc-le-zero}
 use lib.Dec.{T}
 use lib.ListN.{length, getD}
 use Rattle.lists.specs.Lists.{range, any, place, lowest}
+use Rattle.lists.proofs.Tests.{true-T}
 
 -- ---- the place of an element
 
@@ -30,7 +31,7 @@ module _ {A : Type 0} (d : A) (f : A → Bool) where
     where
       go : (b : Bool) → f x ≡ b → (i : ℕ) → i < suc (length l) → T (f (getD (x ∷ l) i d)) → ((j : ℕ) → j < length l → T (f (getD l j d)) → T (f (getD l (place f l) d)))
           → T (f (getD (x ∷ l) (cond b 0 (suc (place f l))) d))
-      go true e i h t ih = subst T (sym e) tt
+      go true e i h t ih = true-T e
       go false e zero h t ih = absurd (subst T e t)
       go false e (suc i) h t ih = ih i (le-of-suc-le-suc h) t
 
@@ -54,7 +55,7 @@ lowest-holds f [] t = absurd t
 lowest-holds f (x ∷ l) t = go (f x) refl t (λ s. lowest-holds f l s)
   where
     go : (b : Bool) → f x ≡ b → T (b || any f l) → (T (any f l) → T (f (lowest f l))) → T (f (cond b x (lowest f l)))
-    go true e t ih = subst T (sym e) tt
+    go true e t ih = true-T e
     go false e t ih = ih t
 
 -- and none of the range below it does

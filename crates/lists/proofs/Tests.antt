@@ -1,10 +1,12 @@
 -- Tests as facts. Assumes nothing.
-use mathlib.Core.Path.{_≡_, refl, ap₂, subst}
+use mathlib.Core.Path.{_≡_, refl, sym, ap₂, _∙_, subst}
 use mathlib.Core.Bool.{Bool, true, false, not, xor, _&&_, _||_}
-use mathlib.Core.Logic.{_⊎_, inl, inr}
+use mathlib.Core.Logic.{_⊎_, inl, inr, by-cases}
 use mathlib.Core.List.{List, [], _∷_}
 use Prim.Native.Nat.{ℕ, zero, suc, _<_, zero-le, suc-le-suc}
+use native.Mathlib.Decide.{ℕ-discrete}
 use native.Mathlib.Nat.{le-of-suc-le-suc, not-suc-le-zero}
+use borrow.Author.Tests.{ne-eqb}
 use lib.Dec.{T, eqb, eqb→eq, eqb-refl}
 use lib.ListN.{length, getD}
 use Rattle.lists.specs.Lists.{all, any, equal}
@@ -42,6 +44,18 @@ pub T? : (b : Bool) → Dec (T b)
 T? true = yes tt
 T? false = no (λ t. t)
 
+pub not-not-T : (b : Bool) → T (not (not b)) → T b
+not-not-T true t = tt
+not-not-T false t = t
+
+-- a test as an equation
+pub true-T : {b : Bool} → b ≡ true → T b
+true-T e = rw e tt
+
+pub is-true : (b : Bool) → T b → b ≡ true
+is-true true t = refl
+is-true false t = absurd t
+
 pub is-false : (b : Bool) → ¬ T b → b ≡ false
 is-false true f = absurd (f tt)
 is-false false f = refl
@@ -59,6 +73,9 @@ xor-false false = refl
 
 pub eq-T : (a b : ℕ) → a ≡ b → T (eqb a b)
 eq-T a b e = subst (λ (x : ℕ). T (eqb a x)) e (eqb-refl a)
+
+pub eqb-comm : (a b : ℕ) → eqb a b ≡ eqb b a
+eqb-comm a b = by-cases (ℕ-discrete a b) (λ e. rw e) (λ n. ne-eqb a b n ∙ sym (ne-eqb b a (λ e. n (sym e))))
 
 -- a test of all elements holds at each
 pub all-at : {A : Type 0} (f : A → Bool) (l : List A) → T (all f l) → (i : ℕ) → i < length l → (d : A) → T (f (getD l i d))

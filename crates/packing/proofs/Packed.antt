@@ -5,23 +5,18 @@ use mathlib.Core.List.{List, [], _∷_, _++_}
 use Prim.Native.Nat.{ℕ, zero, suc, _+_, _-_, _*_, _/_, _%_, _^_, _<_}
 use native.Mathlib.Omega.{arith}
 use native.Mathlib.Numerals.{add-one, one-add}
-use native.Mathlib.Nat.{add-suc, add-assoc, zero-add, mod-lt, div-one, mod-eq-of-lt, pow-suc, zero-lt-suc, not-suc-le-zero, le-of-suc-le-suc}
+use native.Mathlib.Nat.{add-suc, add-assoc, zero-add, mod-lt, div-one, mod-eq-of-lt, zero-lt-suc, not-suc-le-zero, le-of-suc-le-suc}
 use native.Mathlib.Decide.{decLt}
 use lib.ListN.{length, getD, drop, length-append, List·getD-append, List·getD-eq-default}
 use lib.Seq.{getD-drop, getD-append-add}
 use lib.Pow.{shr-shr}
-use lib.Arith.{digits-div, digits-mod, digits-lt}
+use lib.Arith.{digits-div, digits-mod}
 use Rattle.bits.specs.Bits.{bitAt, number, fieldAt}
-use Rattle.bits.proofs.Reading.{number-ext, number-digits}
+use Rattle.bits.proofs.Reading.{number-ext, number-digits, number-lt}
 use Rattle.packing.specs.Packing.{Field, digits, bits, bytesOf, packed}
 use Rattle.packing.specs.Holding.{span, Fit, Holds}
 
 -- ---- a number made of binary digits
-
-number-lt : (f : ℕ → ℕ) → ((i : ℕ) → f i < 2) → (w : ℕ) → number f w < 2 ^ w
-unfolding number
-number-lt f b zero = zero-lt-suc 0
-number-lt f b (suc w) = rw pow-suc (digits-lt (number-lt f b w) (b w))
 
 halved : (a b k : ℕ) → b < 2 → (a * 2 + b) / 2 ^ suc k ≡ a / 2 ^ k
 halved a b k h = rw (← one-add k, ← shr-shr (a * 2 + b) 1 k, digits-div a h)

@@ -1,12 +1,12 @@
 -- What is read of the front of bytes is what is read of all of them. Assumes nothing.
-use mathlib.Core.Path.{_≡_, sym, ap, _∙_, fun-ext}
+use mathlib.Core.Path.{_≡_, ap, fun-ext}
 use mathlib.Core.List.{List, [], _∷_}
 use Prim.Native.Nat.{ℕ, zero, suc, _+_, _-_, _*_, _/_, _%_, _^_, _≤_, _<_}
 use native.Mathlib.Omega.{arith}
 use native.Mathlib.Nat.{suc-mul, mul-le-mul-right}
 use lib.Dec.{eqb}
 use lib.ListN.{getD, take}
-use lib.Seq.{ext-getD, getD-take}
+use lib.Seq.{getD-take}
 use Rattle.bits.specs.Bits.{bitAt, fieldAt}
 use Rattle.bits.proofs.Reading.{number-ext}
 use Rattle.lists.specs.Lists.{sum}
@@ -14,7 +14,7 @@ use Rattle.picture.specs.declared.Header.{Header}
 use Rattle.picture.specs.declared.Link.{Link}
 use Rattle.picture.specs.Layout.{edition1, headerWidths, slotWidths, fieldIn}
 use Rattle.picture.specs.Picture.{Slot, headerIn, slotAt, linkAt, rows}
-use Rattle.picture.proofs.Starts.{length-rows, row-at}
+use Rattle.picture.proofs.Starts.{rows-same}
 
 -- field j ends within the fields
 field-within : (ws : List ℕ) (j : ℕ) → sum (take j ws) + getD ws j 0 ≤ sum ws
@@ -25,12 +25,8 @@ field-within (w ∷ ws) zero = omega arith
 field-within (w ∷ ws) (suc j) = omega (arith, field-within ws j)
 
 -- rows that agree at each place up to their end
-rows-same : {A : Type 0} (f g : ℕ → A) (p w k end : ℕ) → p + k * w ≤ end → ((q : ℕ) → q + w ≤ end → f q ≡ g q) → rows f p w k ≡ rows g p w k
-rows-same f g p w k end l h =
-    ext-getD (f 0) (rows f p w k) (rows g p w k) (length-rows f p w k ∙ sym (length-rows g p w k))
-    (λ i s.
-    let m : i < k = omega (arith, length-rows f p w k) in
-    row-at f (f 0) p w k i m ∙ h (p + i * w) (omega (arith, mul-le-mul-right w m, suc-mul i w)) ∙ sym (row-at g (f 0) p w k i m))
+rows-within : {A : Type 0} (f g : ℕ → A) (p w k end : ℕ) → p + k * w ≤ end → ((q : ℕ) → q + w ≤ end → f q ≡ g q) → rows f p w k ≡ rows g p w k
+rows-within f g p w k end l h = rows-same f g p w k (λ i s. h (p + i * w) (omega (arith, mul-le-mul-right w s, suc-mul i w)))
 
 -- of the first m bytes
 module _ (m : ℕ) (bs : List ℕ) where
@@ -60,10 +56,10 @@ module _ (m : ℕ) (bs : List ℕ) where
   unfolding slotAt
   slots-front p k h =
       let said : (ℕ → ℕ) → Slot = λ f. record { state = f 0; near = eqb (f 1) 1 } in
-      rows-same _ _ p (sum slotWidths) k (m * 8) h (λ q l. ap said (fun-ext (field-front slotWidths q l)))
+      rows-within _ _ p (sum slotWidths) k (m * 8) h (λ q l. ap said (fun-ext (field-front slotWidths q l)))
 
   pub links-front : (ws : List ℕ) (p k : ℕ) → p + k * sum ws ≤ m * 8 → rows (linkAt ws (take m bs)) p (sum ws) k ≡ rows (linkAt ws bs) p (sum ws) k
   unfolding linkAt
   links-front ws p k h =
       let said : (ℕ → ℕ) → Link = λ f. record { from = f 0; to = f 1 } in
-      rows-same _ _ p (sum ws) k (m * 8) h (λ q l. ap said (fun-ext (field-front ws q l)))
+      rows-within _ _ p (sum ws) k (m * 8) h (λ q l. ap said (fun-ext (field-front ws q l)))

@@ -1,20 +1,21 @@
 -- Where the fields of a picture stand in its bytes. Assumes nothing.
 use mathlib.Core.Path.{_≡_, sym, ap, _∙_}
+use mathlib.Core.Bool.{false}
 use mathlib.Core.List.{List, [], _∷_}
 use Prim.Native.Nat.{ℕ, zero, suc, _+_, _-_, _*_, _/_, _%_, _^_, _≤_, _<_}
 use native.Mathlib.Omega.{arith}
 use native.Mathlib.Nat.{add-zero, zero-add, not-suc-le-zero}
 use native.Mathlib.Numerals.{add-one}
-use lib.ListN.{length, getD, length-map}
+use lib.ListN.{length, getD, length-map, List·getD-eq-default}
 use lib.Pow.{high, low}
 use Rattle.bits.specs.Bits.{fieldAt}
 use Rattle.bits.proofs.Reading.{fieldAt-lt, fieldAt-join}
 use Rattle.lists.specs.Lists.{range, item, sum}
-use Rattle.lists.proofs.Ranges.{length-range, getD-map-range}
+use Rattle.lists.proofs.Ranges.{length-range, getD-map-range, map-range-same}
 use Rattle.picture.specs.declared.Header.{Header}
 use Rattle.picture.specs.declared.Link.{Link}
 use Rattle.picture.specs.Layout.{Edition, edition1, slotWidths, endpointWidths, linkWidths, serviceLinkWidths, headerWidths, fieldIn, slotsAt, endpointsAt, linksAt, serviceLinksAt, endAt, sizeOf}
-use Rattle.picture.specs.Picture.{slotAt, endpointAt, linkAt, rows, pictureWith, slotOf, endpointOf}
+use Rattle.picture.specs.Picture.{Picture, slotAt, endpointAt, linkAt, rows, pictureWith, slotOf, endpointOf}
 use Rattle.picture.specs.Rules.{noLink}
 use Rattle.picture.specs.Inner.{Limited}
 
@@ -47,6 +48,11 @@ pub row-at : {A : Type 0} (f : ℕ → A) (d : A) (p w k i : ℕ) → i < k → 
 unfolding rows
 row-at f d p w k i h = getD-map-range (λ i. f (p + i * w)) d 0 k i h ∙ ap (λ (j : ℕ). f (p + j * w)) (zero-add i)
 
+-- rows that agree place by place
+pub rows-same : {A : Type 0} (f g : ℕ → A) (p w k : ℕ) → ((i : ℕ) → i < k → f (p + i * w) ≡ g (p + i * w)) → rows f p w k ≡ rows g p w k
+unfolding rows
+rows-same f g p w k h = map-range-same (λ i. f (p + i * w)) (λ i. g (p + i * w)) 0 0 k (λ i s. rw zero-add (h i s))
+
 -- rows that are counted from 1
 pub item-row : {A : Type 0} (f : ℕ → A) (d : A) (p w k v : ℕ) → 1 ≤ v → v ≤ k → item (rows f p w k) v d ≡ f (p + (v - 1) * w)
 unfolding item
@@ -60,6 +66,11 @@ item-row f d p w k (suc i) l h = row-at f d p w k i h ∙ ap (λ (j : ℕ). f (p
 pub item-next : {A : Type 0} (l : List A) (i : ℕ) (d : A) → item l (i + 1) d ≡ getD l i d
 unfolding item
 item-next l i d = rw add-one
+
+-- past the last slot there is nothing to hold
+pub slot-past : (p : Picture) (i : ℕ) → length (p .slots) ≤ i → slotOf p (suc i) ≡ record { state = 2; near = false }
+unfolding slotOf item
+slot-past p i h = List·getD-eq-default (p .slots) (record { state = 2; near = false }) {n = i} h
 
 module _ (e : Edition) (h : Header) (bs : List ℕ) where
   pub slot-row : (v : ℕ) → 1 ≤ v → v ≤ h .slots → slotOf (pictureWith e h bs) v ≡ slotAt bs (slotsAt e + (v - 1) * sum slotWidths)

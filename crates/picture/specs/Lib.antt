@@ -6,10 +6,8 @@ pub mod Layout
 pub mod Picture
 pub mod Rules
 pub mod Answers
-
 -- Computes: the number of the first fault of any bytes, and the answer by it. `judged` of proofs/Accepted.antt shows that it is the number
 -- of the first rule that is broken, or 0 where all of them hold
 pub mod Faults
-
 -- Serves inner contracts alone: nothing in it is promised
 pub mod Inner

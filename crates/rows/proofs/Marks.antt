@@ -12,17 +12,14 @@ use borrow.Author.Count.{below-more}
 use lib.Count.{trailingZeros}
 use borrow.Author.Tests.{eq-eqb, ne-eqb}
 use lib.Dec.{T, T-not, leb, eqb, leb→le, le→leb, eqb→eq}
-use lib.ListN.{length, getD, set, length-set, List·getD-eq-default}
+use lib.ListN.{length, getD, set, replicate, length-set, length-replicate, List·getD-eq-default}
 use lib.Seq.{getD-set-same, getD-set-other}
 use Rattle.rows.specs.Rows.{bit, marked, linkedIn, With, Linked, Meet, rowWords, inWord}
-use Rattle.lists.proofs.Tests.{and-T, T-and, eq-T}
+use Rattle.lists.proofs.Tests.{and-T, T-and, eq-T, not-not-T, is-false}
+use Rattle.lists.proofs.Picks.{zeros-at}
 use Rattle.rows.proofs.Digits.{bit-none, digit-and, digit-or, digit-xor, digit-shifted}
 use Rattle.rows.proofs.Words.{in-word, word-in, both-words, common-words, none-in-zero, word-begun, word-here}
 use Rattle.rows.proofs.Parts.{done-split, Part, Picked}
-
--- past its words a row has zeros
-getD-past : (row : List ℕ) (j : ℕ) → length row ≤ j → getD row j 0 ≡ 0
-getD-past row j l = List·getD-eq-default row 0 {n = j} l
 
 -- a mark is a digit that is set
 pub mark-digit : (row : List ℕ) (v : ℕ) → T (marked row v) → bit (getD row (v / 64) 0) (v % 64) ≡ 1
@@ -72,7 +69,7 @@ from-first marks v t = word-from 0 marks v (omega arith) t
 pub from-past : (row : List ℕ) (i : ℕ) → length row ≤ i → (v : ℕ) → ¬ T (fromWord i (marked row) v)
 from-past row i l v t =
     let s = from-word i (marked row) v t in
-    omega (arith, mark-digit row v (s .1), bit-none (v % 64), ap (λ w. bit w (v % 64)) (getD-past row (v / 64) (omega (arith, s .0))))
+    omega (arith, mark-digit row v (s .1), bit-none (v % 64), ap (λ w. bit w (v % 64)) (List·getD-eq-default row 0 {n = v / 64} (omega (arith, s .0))))
 
 -- the marks of later words are above those of the words before
 pub from-part : (i : ℕ) (marks : ℕ → Bool) → Part marks (fromWord i marks)
@@ -146,7 +143,13 @@ made-marks op test digit zeros n one other row m v =
         by-cases
         (decLt j n)
         (m .words j)
-        (λ nl. rw (getD-past row j (omega (arith, m .rows)), getD-past one j (omega (arith, m .ones)), getD-past other j (omega (arith, m .others))) (sym zeros))
+        (λ nl.
+        rw (
+          List·getD-eq-default row 0 {n = j} (omega (arith, m .rows)),
+          List·getD-eq-default one 0 {n = j} (omega (arith, m .ones)),
+          List·getD-eq-default other 0 {n = j} (omega (arith, m .others)),
+        )
+        (sym zeros))
 
 -- what the first word has and the second has not
 abbrev pub lessWord : ℕ → ℕ → ℕ
@@ -164,8 +167,15 @@ digit-less a b k = digit-xor a (bitAnd a b) k ∙ ap (xor (eqb (bit a k) 1)) (di
 -- a row whose words are 0 marks nothing
 pub none-marked : (row : List ℕ) (n : ℕ) → length row ≤ n → ((j : ℕ) → j < n → getD row j 0 ≡ 0) → (v : ℕ) → ¬ T (marked row v)
 none-marked row n l zeros v t =
-    let z : getD row (v / 64) 0 ≡ 0 = by-cases (decLt (v / 64) n) (zeros (v / 64)) (λ nl. getD-past row (v / 64) (omega arith)) in
+    let z : getD row (v / 64) 0 ≡ 0 = by-cases (decLt (v / 64) n) (zeros (v / 64)) (λ nl. List·getD-eq-default row 0 (omega arith)) in
     omega (arith, bit-none (v % 64), rw z at (mark-digit row v t))
+
+-- a row of zeros marks nothing
+pub clear : (n v : ℕ) → ¬ T (marked (replicate n 0) v)
+clear n v = none-marked (replicate n 0) n (omega (arith, length-replicate {A = ℕ} n 0)) (λ j l. zeros-at n j) v
+
+pub clear-row : (n v : ℕ) → marked (replicate n 0) v ≡ false
+clear-row n v = is-false (marked (replicate n 0) v) (clear n v)
 
 -- a word that is not 0 marks a location
 pub some-marked : (row : List ℕ) (i : ℕ) → getD row i 0 < 2 ^ 64 → (getD row i 0 ≡ 0 → ⊥) → (v : ℕ) × T (marked row v)
@@ -245,12 +255,9 @@ module _ (one other : List ℕ) (seen i : ℕ) where
   looked-all l h =
       record {
         common = λ t. common (l .some (λ z. T-not (eqb seen 0) t (eq-T seen 0 z)));
-        apart = λ t v a b. apart (l .none (not-not t)) v a b;
+        apart = λ t v a b. apart (l .none (eqb→eq seen 0 (not-not-T (eqb seen 0) t))) v a b;
       }
     where
-      not-not : T (not (not (eqb seen 0))) → seen ≡ 0
-      not-not t = by-cases (ℕ-discrete seen 0) (λ e. e) (λ ne. absurd (T-not (not (eqb seen 0)) t (rw (ne-eqb seen 0 ne) tt)))
-
       both : (j v : ℕ) → T (inWord (bitAnd (getD one j 0) (getD other j 0)) (j * 64) v) → T (marked one v) × T (marked other v)
       both j v t =
           let s = common-words (getD one j 0) (getD other j 0) (j * 64) v t in

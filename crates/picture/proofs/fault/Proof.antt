@@ -1,13 +1,14 @@
 -- `fault` finds the number of a picture's first fault. Assumes nothing.
 use mathlib.Core.Path.{_≡_, refl, sym, ap, _∙_}
 use native.Mathlib.Omega.{arith}
-use mathlib.Core.Bool.{Bool, true, not}
+use mathlib.Core.Bool.{Bool, not}
 use mathlib.Core.List.{List}
 use Prim.Native.Nat.{ℕ}
-use lib.Dec.{T, ltb}
+use lib.Dec.{ltb}
 use lib.ListN.{length, drop}
 use borrow.Author.Tests.{lt-ltb, le-ltb, eq-eqb, ne-eqb, not-true, not-false}
 use Rattle.lists.specs.Lists.{on, first, sum}
+use Rattle.lists.proofs.Tests.{true-T}
 use Rattle.lists.proofs.Faults.{skip-at, stop-at}
 use Rattle.picture.specs.declared.Header.{Header}
 use Rattle.picture.specs.Layout.{edition1, headerWidths, fieldIn, sizeOf}
@@ -52,13 +53,10 @@ past-counts : (c : tie.Else4) {z : ℕ} → z ≡ first (drop 4 (faults (c .befo
 unfolding faultsWith on
 past-counts c e = past-sizes (c .before .before) (skip-at {x = 0} _ refl (told 4 (sym (not-false _ (c .if4 .left)) ∙ counts (c .before))) e)
 
-passes : {b : Bool} → b ≡ true → T b
-passes e = rw e tt
-
 limited : (c : tie.Else4) → Limited (c .before .before .before .before .header-of .result)
 limited c =
-    right-limited (c .before .before .before .before .header-of .result) (passes (sym (c .before .before .before .sizes-right .ensures) ∙ not-false _ (c .before .before .if3 .left)))
-    (passes (sym (c .before .counts-right .ensures) ∙ not-false _ (c .if4 .left)))
+    right-limited (c .before .before .before .before .header-of .result) (true-T (sym (c .before .before .before .sizes-right .ensures) ∙ not-false _ (c .before .before .if3 .left)))
+    (true-T (sym (c .before .counts-right .ensures) ∙ not-false _ (c .if4 .left)))
 
 -- the size that the header asks for
 asked : (c : tie.After-size-of) → c .size-of .result ≡ sizeOf edition1 (headerIn edition1 (c .before .before .before .before .before .before .before .before .before .before .args .s .now))
