@@ -4,8 +4,8 @@ use native.Mathlib.Omega.{arith}
 use Rattle.picture.specs.Inner.{Read}
 use Rattle.picture.proofs.Answering.{accepted-read, refused-fault}
 use Rattle.picture.proofs.Facts.{read-sizes}
+use Rattle.network.proofs.Blocks.{read-blocks}
 use Rattle.weigh.specs.declared.Weighing.the-variants.{Weighed}
-use Rattle.weigh.proofs.Blocks.{read-blocks}
 use Rattle.weigh.proofs.Answering.{weigh-faulty, weigh-no-block, weigh-told, answered}
 use borrow.Author.Needs.{needs}
 use Rattle.weigh.proofs.weigh.Statement.{statement}
