@@ -24,7 +24,7 @@ use Rattle.picture.proofs.Starts.{field-first, field-second, row-at, rounded}
 use Rattle.picture.proofs.Accepted.{accepted-kept, kept-accepted}
 use Rattle.network.specs.Words.{slotCount, blockCount, inBlock}
 use Rattle.network.proofs.Named.{slots-counted}
-use Rattle.weigh.proofs.Blocks.{block-fits}
+use Rattle.network.proofs.Blocks.{block-fits}
 use Rattle.acts.specs.declared.Act.{Act}
 use Rattle.acts.specs.Acts.{after, blockSlots, putStates, doneBytes, slotAfter, actOn}
 use Rattle.acts.proofs.States.{stateAt, length-putStates, bit-beside, field-beside, field-state}

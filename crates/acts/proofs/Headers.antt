@@ -17,7 +17,7 @@ use Rattle.picture.proofs.Accepted.{accepted-kept}
 use Rattle.picture.proofs.Facts.{read-picture, read-sizes}
 use Rattle.network.specs.Words.{blockCount, inBlock, isHeld}
 use Rattle.network.specs.Rows.{isNearHeld}
-use Rattle.weigh.proofs.Blocks.{block-fits, read-block-size, read-blocks}
+use Rattle.network.proofs.Blocks.{block-fits, read-block-size, read-blocks}
 use Rattle.acts.specs.declared.Act.{Act}
 use Rattle.acts.specs.Acts.{after, blockSlots, changes, recoverableNear}
 

@@ -19,7 +19,7 @@ use Rattle.picture.proofs.Facts.{read-sizes}
 use Rattle.network.specs.Words.{blockCount}
 use Rattle.network.specs.Tests.{isCandidate, candidates}
 use Rattle.network.proofs.Candidates.{candidates-below}
-use Rattle.weigh.proofs.Blocks.{read-slots, read-blocks, read-block}
+use Rattle.network.proofs.Blocks.{read-slots, read-blocks, read-block}
 use Rattle.evidence.specs.Checks.{formRight}
 use Rattle.checker.proofs.Parts.{blockAt, formed-block}
 

@@ -23,7 +23,7 @@ use Rattle.network.specs.Rows.{RowsOf, SlotRowsOf, EndpointsOf}
 use Rattle.network.proofs.Making.{clear-row}
 use Rattle.network.proofs.Named.{accepted-named}
 use Rattle.weigh.specs.Sums.{LostBetween}
-use Rattle.weigh.proofs.Blocks.{read-slots, read-endpoints}
+use Rattle.network.proofs.Blocks.{read-slots, read-endpoints}
 use Rattle.weigh.proofs.Serving.{walked-over, served-value}
 use Rattle.evidence.specs.Layout.{headWidths}
 use Rattle.evidence.specs.declared.Choice.{Choice}

@@ -20,7 +20,7 @@ use Rattle.network.specs.Rows.{SlotRowsOf, BlockRow}
 use Rattle.network.proofs.Named.{Named, accepted-named}
 use Rattle.network.proofs.Weights.{weight-small, mark-le}
 use Rattle.weigh.specs.Sums.{Small, LostBetween}
-use Rattle.weigh.proofs.Blocks.{read-block-size, read-slots, read-endpoints, read-blocks}
+use Rattle.network.proofs.Blocks.{read-block-size, read-slots, read-endpoints, read-blocks}
 use Rattle.weigh.proofs.Serving.{walked-over, left-slots, left-held, loss-value, mark-value}
 use Rattle.evidence.specs.Layout.{sectionWidths}
 use Rattle.evidence.specs.Canonical.{fieldsOf, forestFields, forestOf, sectionFields}

@@ -29,7 +29,7 @@ use Rattle.network.specs.Tests.{weighed, servedWeight, isCandidate, candidates}
 use Rattle.network.proofs.Named.{slots-counted}
 use Rattle.network.proofs.Weights.{mark-le, weighed-block, weights-small}
 use Rattle.network.proofs.Candidates.{candidates-below}
-use Rattle.weigh.proofs.Blocks.{read-blocks}
+use Rattle.network.proofs.Blocks.{read-blocks}
 use Rattle.evidence.specs.Layout.{headWidths, nodeWidths, sectionWidths, forestBits, sectionBits, sectionAt, evidenceBytes}
 use Rattle.evidence.specs.declared.Choice.{Choice}
 use Rattle.evidence.specs.Canonical.{noCost, weighings, least, fieldsOf, headFields, nodeFields, forestFields, forestOf, sectionFields, evidenceFields, evidenceOf}

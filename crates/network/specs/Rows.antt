@@ -1,4 +1,4 @@
--- A picture's network as rows of marks: what the functions that make them give. Assumes nothing.
+-- A picture's network as rows of marks: what the functions that make them give. Inner: nothing here is promised. Assumes nothing.
 use mathlib.Core.Bool.{Bool, true, false, _&&_}
 use mathlib.Core.List.{List}
 use mathlib.Core.Path.{_≡_}

@@ -51,6 +51,7 @@ pub record Cuts (p : Picture) (b c : ℕ) : Type 0 where
   pub before : Served p (isHeld p) c
   pub after : ¬ Served p (heldWithout p b) c
 
+-- the weight of an endpoint
 unfoldable pub weightOf : Picture → ℕ → ℕ
 weightOf p c = endpointOf p c .weight
 

@@ -1,2 +1,2 @@
--- The definitions that the contracts of `rows` cite. They serve inner contracts alone: no answer of the library speaks of rows
+-- What serves inner contracts alone: nothing here is promised, and no promised definition of the crates above rests on it.
 pub mod Rows

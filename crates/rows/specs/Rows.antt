@@ -1,4 +1,4 @@
--- Rows of marks, 64 to a word: a location is marked by a digit of a word. Assumes nothing.
+-- Rows of marks, 64 to a word: a location is marked by a digit of a word. Inner: nothing here is promised. Assumes nothing.
 use mathlib.Core.Bool.{Bool, not, xor, _&&_, _||_}
 use mathlib.Core.List.{List, []}
 use mathlib.Core.Path.{_≡_}
@@ -10,14 +10,15 @@ use lib.Dec.{T, leb, ltb, eqb}
 abbrev pub slotsMax : ℕ
 slotsMax = 240
 
--- the rows of a table, one for each location
+-- the rows of a table of links, one for each location
 abbrev pub locationsMax : ℕ
 locationsMax = slotsMax + 1
 
--- the words of a row, and the locations that they can mark
+-- the words of a row
 abbrev pub rowWords : ℕ
 rowWords = 4
 
+-- the locations, or endpoints, that they can mark
 abbrev pub marksMax : ℕ
 marksMax = rowWords * 64
 

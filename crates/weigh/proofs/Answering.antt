@@ -11,6 +11,7 @@ use Rattle.picture.specs.Picture.{pictureOf}
 use Rattle.picture.specs.Faults.{pictureFault}
 use Rattle.network.specs.Words.{blockCount}
 use Rattle.weigh.specs.declared.Weights.{Weights}
+use Rattle.weigh.specs.declared.Weighing.{Weighing}
 use Rattle.weigh.specs.declared.Weighing.the-variants.{Weighed, Refused}
 use Rattle.weigh.specs.Weighing.{blockFault, weighFault, weightsOf, weighingOf, weighing, weightValues, weighingNumbers}
 
@@ -50,3 +51,8 @@ weighing-numbers bs b = go (weighFault bs b)
     go : (k : ℕ) → weighingNumbers (weighingOf k (weightsOf (pictureOf bs) b)) ≡ outcome k (weightValues (weightsOf (pictureOf bs) b))
     go zero = refl
     go (suc k) = refl
+
+-- an answer that is the one of the specification has its numbers
+pub answered : (bs : List ℕ) (b : ℕ) (r : Weighing) → r ≡ weighing bs b
+    → (r ≡ weighing bs b) × (weighingNumbers r ≡ outcome (weighFault bs b) (weightValues (weightsOf (pictureOf bs) b)))
+answered bs b r e = (e, ap weighingNumbers e ∙ weighing-numbers bs b)

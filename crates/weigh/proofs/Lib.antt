@@ -1,5 +1,4 @@
 -- Laws of weighing.
 pub mod Picking
 pub mod Serving
-pub mod Blocks
 pub mod Answering

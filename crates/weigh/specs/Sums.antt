@@ -1,4 +1,4 @@
--- The sum over the endpoints that rows of marks pick. Assumes nothing.
+-- The sum over the endpoints that rows of marks pick. Inner: nothing here is promised. Assumes nothing.
 use mathlib.Core.Bool.{Bool, not, _&&_}
 use mathlib.Core.List.{List, [], map}
 use mathlib.Core.Path.{_≡_}
@@ -16,10 +16,11 @@ pub record LostRow (row before after : List ℕ) (lost : Bool) : Type 0 where
 pub record Meets (table : List (List ℕ)) (row : List ℕ) (f : ℕ → Bool) : Type 0 where
   pub meet : (c : ℕ) → Meet (getD table c []) row (f c)
 
--- the weight of the endpoints 1 to d that the first test picks and the second does not, and 1 if one of them is protected, else 0
+-- the weight of the endpoints 1 to d that the first test picks and the second does not
 unfoldable pub weightBetween : List ℕ → ℕ → (ℕ → Bool) → (ℕ → Bool) → ℕ
 weightBetween weights d f g = sum (map (λ c. on (f c && not (g c)) (getD weights c 0)) (range 1 d))
 
+-- 1 if one of them is protected, else 0
 unfoldable pub markBetween : List ℕ → ℕ → (ℕ → Bool) → (ℕ → Bool) → ℕ
 markBetween guarded d f g = on (any (λ c. marked guarded c && (f c && not (g c))) (range 1 d)) 1
 

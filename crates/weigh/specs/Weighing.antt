@@ -29,13 +29,15 @@ unfoldable pub weighingOf : ℕ → Weights → Weighing
 weighingOf zero w = Weighed w
 weighingOf (suc k) w = Refused (suc k)
 
+-- the answer for a picture of any bytes and any block
 unfoldable pub weighing : List ℕ → ℕ → Weighing
 weighing bs b = weighingOf (weighFault bs b) (weightsOf (pictureOf bs) b)
 
--- 01's number and values for each case
+-- 01's values, in its order: served weight, loss, mark
 unfoldable pub weightValues : Weights → List ℕ
 weightValues w = w .served ∷ w .loss ∷ w .mark ∷ []
 
+-- 01's number and values for each case: 0 and the values, or the number of the refusal
 unfoldable pub weighingNumbers : Weighing → List ℕ
 weighingNumbers (Weighed w) = 0 ∷ weightValues w
 weighingNumbers (Refused k) = k ∷ []

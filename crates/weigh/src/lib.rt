@@ -4,21 +4,20 @@ ghost use mathlib.Core.Bool.{_&&_};
 ghost use mathlib.Core.List.{List};
 ghost use Prim.Native.Nat.{ℕ, suc, _≤_, _<_};
 ghost use lib.ListN.{length};
+ghost use Rattle.lists.specs.Lists.{outcome};
 ghost use Rattle.rows.specs.Rows.{marked, Minus, marksMax};
 ghost use Rattle.picture.specs.Picture.{pictureOf};
 ghost use Rattle.picture.specs.Inner.{Read};
 ghost use Rattle.picture.specs.Layout.{endpointsMax};
 ghost use Rattle.network.specs.Words.{blockCount};
 ghost use Rattle.weigh.specs.Sums.{Small, LostRow, LostBetween};
-ghost use Rattle.weigh.specs.Weighing.{weightsOf, weighing};
+ghost use Rattle.weigh.specs.Weighing.{weighFault, weightsOf, weighing, weightValues, weighingNumbers};
 use network::ENDPOINTS;
 use picture::Header;
 use picture::Reading;
+use picture::refusals::NO_BLOCK;
 use rows::LOCATIONS;
 use rows::WORDS;
-
-// The number of a block that is not there.
-pub const NO_BLOCK: u8 = 8;
 
 // What weighing gives.
 pub struct Weights {
@@ -122,7 +121,9 @@ pub fn weigh_block(s: &[u8], h: Header, b: usize) -> Weights
 
 // Weighs block b of a picture of any bytes.
 pub fn weigh(s: &[u8], b: u32) -> Weighing
-    ensures { λ r. ⌜ r ≡ weighing (now (s .entry)) b ⌝ }
+    ensures answer { λ r. ⌜ r ≡ weighing (now (s .entry)) b ⌝ }
+    ensures numbers { λ r.
+        ⌜ weighingNumbers r ≡ outcome (weighFault (now (s .entry)) b) (weightValues (weightsOf (pictureOf (now (s .entry))) b)) ⌝ }
 {
     match picture::read(s) {
         Reading::Refused(number) => Weighing::Refused(number),

@@ -7,7 +7,7 @@ use borrow.Author.Tests.{not-true, not-false}
 use Rattle.picture.specs.Picture.{pictureOf}
 use Rattle.picture.proofs.Facts.{read-sizes}
 use Rattle.network.specs.Words.{blockCount}
-use Rattle.weigh.proofs.Blocks.{read-blocks}
+use Rattle.network.proofs.Blocks.{read-blocks}
 use Rattle.acts.specs.Acts.{changes}
 use Rattle.acts.proofs.Answering.{no-block, no-change, cuts, cuts-none}
 use Rattle.acts.proofs.act_fault.Statement.{statement}

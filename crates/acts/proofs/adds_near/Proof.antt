@@ -10,7 +10,7 @@ use Rattle.picture.specs.Picture.{pictureOf}
 use Rattle.picture.specs.Inner.{Read}
 use Rattle.picture.proofs.Facts.{read-limited}
 use Rattle.network.specs.Words.{slotCount, blockCount}
-use Rattle.weigh.proofs.Blocks.{read-slots}
+use Rattle.network.proofs.Blocks.{read-slots}
 use Rattle.acts.specs.Acts.{recoverableNear}
 use Rattle.lists.proofs.Scans.{none-begun, none-more, some-found}
 use Rattle.acts.proofs.adds_near.Statement.{statement}

@@ -13,7 +13,7 @@ use Rattle.picture.specs.Inner.{Read}
 use Rattle.picture.proofs.Facts.{read-limited}
 use Rattle.network.specs.Words.{slotCount, blockCount}
 use Rattle.network.specs.Rows.{isNearHeld}
-use Rattle.weigh.proofs.Blocks.{read-slots}
+use Rattle.network.proofs.Blocks.{read-slots}
 use Rattle.acts.specs.Acts.{recoverableNear, nearAfter}
 use Rattle.lists.proofs.Scans.{count-begun, count-hit, count-miss, count-le}
 use Rattle.acts.proofs.near_after.Statement.{statement}

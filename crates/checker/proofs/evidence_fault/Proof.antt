@@ -11,7 +11,7 @@ use Rattle.picture.specs.Layout.{edition1}
 use Rattle.picture.specs.Picture.{pictureOf}
 use Rattle.picture.proofs.Facts.{read-sizes}
 use Rattle.network.specs.Tests.{candidates}
-use Rattle.weigh.proofs.Blocks.{read-slots, read-block-size, read-blocks}
+use Rattle.network.proofs.Blocks.{read-slots, read-block-size, read-blocks}
 use Rattle.evidence.specs.Checks.{formRight, verdictRight}
 use Rattle.evidence.specs.Canonical.{weighings}
 use Rattle.checker.specs.Following.{partsFault}

@@ -9,7 +9,7 @@ use Rattle.picture.specs.Layout.{fieldIn}
 use Rattle.picture.specs.Inner.{Read}
 use Rattle.picture.proofs.Answering.{accepted-read, refused-fault}
 use Rattle.picture.proofs.Facts.{read-sizes}
-use Rattle.weigh.proofs.Blocks.{read-slots}
+use Rattle.network.proofs.Blocks.{read-slots}
 use Rattle.evidence.specs.Layout.{headWidths}
 use Rattle.evidence.specs.Checks.{headIn}
 use Rattle.evidence.specs.Calls.{Part}

@@ -8,7 +8,7 @@ use Rattle.picture.specs.Picture.{pictureOf}
 use Rattle.picture.proofs.Answering.{accepted-read, refused-fault}
 use Rattle.picture.proofs.Facts.{read-sizes}
 use Rattle.network.specs.Tests.{candidates}
-use Rattle.weigh.proofs.Blocks.{read-block-size, read-blocks, read-slots}
+use Rattle.network.proofs.Blocks.{read-block-size, read-blocks, read-slots}
 use Rattle.evidence.specs.Calls.{lengthFor}
 use Rattle.choose.proofs.Answering.{choose-faulty, choose-short, choose-told}
 use borrow.Author.Needs.{needs}

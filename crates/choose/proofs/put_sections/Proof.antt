@@ -10,7 +10,7 @@ use Rattle.picture.proofs.Facts.{read-sizes}
 use Rattle.network.specs.Words.{blockCount}
 use Rattle.network.specs.Tests.{isCandidate}
 use Rattle.network.specs.Rows.{SlotRowsOf}
-use Rattle.weigh.proofs.Blocks.{read-block, read-blocks, read-slots}
+use Rattle.network.proofs.Blocks.{read-block, read-blocks, read-slots}
 use Rattle.choose.specs.declared.Choice.{Choice}
 use Rattle.choose.specs.Sections.{choiceOf, WeighRows, Room}
 use Rattle.choose.proofs.Sections.{read-below, read-candidate, read-left, blocks-few}

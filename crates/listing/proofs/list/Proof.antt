@@ -6,7 +6,7 @@ use lib.ListN.{length, take, replicate, length-take, length-replicate}
 use Rattle.picture.specs.Inner.{Read}
 use Rattle.picture.proofs.Answering.{accepted-read, refused-fault}
 use Rattle.picture.proofs.Facts.{read-sizes}
-use Rattle.weigh.proofs.Blocks.{read-slots}
+use Rattle.network.proofs.Blocks.{read-slots}
 use Rattle.evidence.specs.Layout.{evidenceMax}
 use Rattle.evidence.specs.Canonical.{evidenceOf}
 use Rattle.evidence.specs.Calls.{lengthFor}

@@ -4,16 +4,12 @@ use native.Mathlib.Omega.{arith}
 use Rattle.picture.specs.Inner.{Read}
 use Rattle.picture.proofs.Answering.{accepted-read, refused-fault}
 use Rattle.picture.proofs.Facts.{read-sizes}
+use Rattle.network.proofs.Blocks.{read-blocks}
 use Rattle.weigh.specs.declared.Weighing.the-variants.{Weighed}
-use Rattle.weigh.proofs.Blocks.{read-blocks}
-use Rattle.weigh.proofs.Answering.{weigh-faulty, weigh-no-block, weigh-told}
+use Rattle.weigh.proofs.Answering.{weigh-faulty, weigh-no-block, weigh-told, answered}
 use borrow.Author.Needs.{needs}
 use Rattle.weigh.proofs.weigh.Statement.{statement}
 use Rattle.weigh.proofs.weigh.Tie as tie
-use Rattle.weigh.proofs.weigh.Reads as reads
-use Rattle.weigh.proofs.weigh.Lts as lts
-use Rattle.picture.proofs.read.Reads as read-reads
-use Rattle.weigh.proofs.weigh_block.Reads as weigh-block-reads
 
 -- the header that was read is the picture's
 accepted : (c : tie.After-h) → Read (c .before .before .before .before .args .s .now) (c .h .given .0 .0)
@@ -34,7 +30,7 @@ div-if1 c = omega (arith, read-sizes _ _ (accepted (c .before .before)) .size-so
 returns : tie.Need-returns
 returns c =
     let r = accepted (c .before .before .before) in
-    weigh-no-block _ _ (r .accepted) (rw (← read-blocks _ _ r) (c .if1 .taken))
+    answered _ _ _ (weigh-no-block _ _ (r .accepted) (rw (← read-blocks _ _ r) (c .if1 .taken)))
 
 weigh-block-requires : tie.Need-weigh-block-requires
 weigh-block-requires c κs =
@@ -44,12 +40,12 @@ weigh-block-requires c κs =
 returns-2 : tie.Need-returns-2
 returns-2 c =
     let r = refused-fault _ _ (sym (c .before .number .given .1) ∙ c .before .before .before .read .ensures .0) in
-    weigh-faulty _ _ _ (r .1) (r .0)
+    answered _ _ _ (weigh-faulty _ _ _ (r .1) (r .0))
 
 returns-3 : tie.Need-returns-3
 returns-3 c =
     let r = accepted (c .before .before .before .before) in
-    ap Weighed (c .weigh-block .ensures) ∙ weigh-told _ _ (r .accepted) (rw (← read-blocks _ _ r) (c .before .if1 .left))
+    answered _ _ _ (ap Weighed (c .weigh-block .ensures) ∙ weigh-told _ _ (r .accepted) (rw (← read-blocks _ _ r) (c .before .if1 .left)))
 
 pub weigh-spec : {M : Type 1} → statement M
 weigh-spec =

@@ -7,9 +7,9 @@ use Rattle.picture.specs.Picture.{Picture, pictureOf}
 use Rattle.network.specs.Words.{isHeld, heldWithout, joins}
 use Rattle.network.specs.Rows.{BlockRow}
 use Rattle.network.proofs.Named.{accepted-named}
+use Rattle.network.proofs.Blocks.{read-block-size, read-endpoints, read-block}
 use Rattle.network.proofs.Making.{zeros-unmarked, clear-made}
 use Rattle.weigh.specs.Weighing.{weightsOf}
-use Rattle.weigh.proofs.Blocks.{read-block-size, read-endpoints, read-block}
 use Rattle.weigh.proofs.Serving.{walked-over, left-slots, left-held, sums-ready, served-value, loss-value, mark-value}
 use borrow.Author.Needs.{needs}
 use Rattle.weigh.proofs.weigh_block.Statement.{statement}

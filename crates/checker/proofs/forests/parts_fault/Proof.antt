@@ -14,7 +14,7 @@ use Rattle.picture.specs.Layout.{edition1, blocksMax}
 use Rattle.picture.proofs.Facts.{read-limited}
 use Rattle.network.proofs.Named.{accepted-named}
 use Rattle.network.proofs.Weights.{weight-small}
-use Rattle.weigh.proofs.Blocks.{read-slots, read-block-size, read-endpoints}
+use Rattle.network.proofs.Blocks.{read-slots, read-block-size, read-endpoints}
 use Rattle.evidence.specs.Checks.{forestIn}
 use Rattle.checker.proofs.Nodes.{node-read}
 use Rattle.checker.proofs.Forests.{Followed, followed-begun, followed-in, followed-out, Closed, closed-begun, closed-none, closed-out, closed-apart}

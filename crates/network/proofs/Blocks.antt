@@ -3,19 +3,23 @@ use mathlib.Core.Path.{_≡_, refl, sym, ap, ap₂, _∙_}
 use mathlib.Core.List.{List}
 use Prim.Native.Nat.{ℕ, suc, _+_, _*_, _/_, _≤_, _<_}
 use native.Mathlib.Omega.{arith}
-use native.Mathlib.Nat.{suc-mul, le-trans, mul-le-mul-right, div-mul-le-self}
+use native.Mathlib.Nat.{suc-mul, mul-le-mul-right, div-mul-le-self}
 use Rattle.rows.specs.Rows.{slotsMax}
 use Rattle.picture.specs.declared.Header.{Header}
 use Rattle.picture.specs.Picture.{Picture, pictureOf, pictureWith}
 use Rattle.picture.specs.Inner.{Read}
 use Rattle.picture.proofs.Facts.{read-picture, read-sizes, read-slots-length, read-endpoints-length}
 use Rattle.network.specs.Words.{slotCount, endpointCount, blockCount}
+
+-- a block below the last ends where the last does or before
+pub block-within : (n size blocks b : ℕ) → b < blocks → blocks * size ≤ n → b * size + size ≤ n
+block-within n size blocks b h l =
+    let e : suc b * size ≤ blocks * size = mul-le-mul-right size h in
+    omega (arith, suc-mul b size)
 
 -- the last slot of a block below n / size is at most n
 pub block-fits : (n size b : ℕ) → b < n / size → b * size + size ≤ n
-block-fits n size b h =
-    let e : suc b * size ≤ n = le-trans (mul-le-mul-right size h) (div-mul-le-self n size) in
-    omega (arith, suc-mul b size)
+block-fits n size b h = block-within n size (n / size) b h (div-mul-le-self n size)
 
 module _ (bs : List ℕ) (h : Header) (r : Read bs h) where
   pub read-block-size : pictureOf bs .blockSize ≡ h .«block_size»
