@@ -19,15 +19,15 @@ use Rattle.picture.specs.declared.Header.{Header}
 use Rattle.picture.specs.Layout.{Edition, edition1, headerWidths, slotWidths, endpointWidths, linkWidths, serviceLinkWidths, fieldIn, slotsAt, endpointsAt, linksAt, serviceLinksAt, endAt}
 use Rattle.picture.specs.Picture.{Picture, Slot, headerIn, headerOf, slotAt, endpointAt, linkAt, rows, pictureWith, pictureOf, slotOf}
 use Rattle.picture.specs.Faults.{pictureFault}
-use Rattle.picture.specs.Rules.{Kept}
+use Rattle.picture.proofs.Kept.{Kept}
 use Rattle.picture.proofs.Starts.{field-first, field-second, row-at, rounded}
 use Rattle.picture.proofs.Accepted.{accepted-kept, kept-accepted}
 use Rattle.network.specs.Words.{slotCount, blockCount, inBlock}
 use Rattle.network.proofs.Named.{slots-counted}
 use Rattle.network.proofs.Blocks.{block-fits}
 use Rattle.acts.specs.declared.Act.{Act}
-use Rattle.acts.specs.Acts.{after, blockSlots, putStates, doneBytes, slotAfter, actOn}
-use Rattle.acts.proofs.States.{stateAt, length-putStates, bit-beside, field-beside, field-state}
+use Rattle.acts.specs.Acts.{after, blockSlots, stateAt, StateBit, putStates, doneBytes, slotAfter, actOn}
+use Rattle.acts.proofs.States.{length-putStates, bit-beside, field-beside, field-state}
 use Rattle.acts.proofs.Slots.{after-small, block-in, states-known}
 
 -- ---- rows
@@ -50,13 +50,6 @@ unfolding stateAt slotWidths sum
 states-apart i j l = omega arith
 
 -- ---- the bytes
-
--- bit m is one of the two of the state of a slot of block b
-pub record StateBit (e : Edition) (p : Picture) (b m : ℕ) : Type 0 where
-  pub before : ℕ
-  pub inside : T (inBlock p b (suc before))
-  pub from : stateAt e before ≤ m
-  pub below : m < stateAt e before + 2
 
 module _ (a : Act) (bs : List ℕ) (b : ℕ) (ok : pictureFault bs ≡ 0) (there : b < blockCount (pictureOf bs)) where
   abbrev h : Header
@@ -255,7 +248,7 @@ module _ (a : Act) (bs : List ℕ) (b : ℕ) (ok : pictureFault bs ≡ 0) (there
         long = rw (acted-header, acted-length) (k .long);
         states = rw (acted-header, acted-picture) (record { state = λ v l m. states-known a p b (λ u x y. k .states .state u x (rw (slots-counted bs) at y)) v l (rw (slots-counted bs) m) });
         links = rw (acted-header, acted-picture) (unfold actOn in record { from = k .links .from; to = k .links .to });
-        services = rw (acted-header, acted-picture) (unfold actOn in record { location = k .services .location; endpoint-some = k .services .endpoint-some; endpoint-most = k .services .endpoint-most });
+        serviceLinks = rw (acted-header, acted-picture) (unfold actOn in record { location = k .serviceLinks .location; endpoint-some = k .serviceLinks .endpoint-some; endpoint-most = k .serviceLinks .endpoint-most });
         ends = rw acted-header (record { fill = λ i l m. bit-behind i (le-trans end-behind l) ∙ k .ends .fill i l m; end = acted-length ∙ k .ends .end });
       })
     where

@@ -14,11 +14,12 @@ use Rattle.picture.specs.Faults.{pictureFault}
 use Rattle.network.specs.Words.{blockCount}
 use Rattle.weigh.specs.Weighing.{blockFault}
 use Rattle.acts.specs.declared.Act.{Act}
+use Rattle.acts.specs.declared.Acting.{Acting}
 use Rattle.acts.specs.declared.Acting.the-variants.{Done, Refused}
 use Rattle.acts.proofs.Judged.{done-bytes as done-writes, refused-bytes as refused-stays}
 use Rattle.acts.specs.Acts.{changes, cutFault, nearFault, actFault, doneBytes, actBytes, actingOf, acting, actingNumbers}
 
--- the last number of the list is what is outcome
+-- the last number of the list is what is told
 last-at : {z y : ℕ} → z ≡ y → z ≡ first (y ∷ [])
 last-at {z} {y} e = e ∙ go y
   where
@@ -98,3 +99,17 @@ acting-numbers a bs b = go (actFault a bs b)
     go : (k : ℕ) → actingNumbers (actingOf k) ≡ outcome k []
     go zero = refl
     go (suc k) = refl
+
+-- no refusal has the number 0
+acting-refused : (a : Act) (bs : List ℕ) (b : ℕ) → acting a bs b ≢ Refused 0
+unfolding acting actingOf
+acting-refused a bs b = go (actFault a bs b)
+  where
+    go : (k : ℕ) → actingOf k ≢ Refused 0
+    go zero e = let z : _≡_ {A = ℕ} 0 1 = cc in omega arith
+    go (suc k) e = let z : suc k ≡ 0 = cc in omega arith
+
+-- what a contract says of an answer: the case, its number, and that it is no refusal with 0; then the bytes
+pub answered : (a : Act) (bs : List ℕ) (b : ℕ) (r : Acting) {bytes : Type 0} → r ≡ acting a bs b → bytes
+    → (r ≡ acting a bs b) × ((actingNumbers r ≡ outcome (actFault a bs b) []) × ((r ≢ Refused 0) × bytes))
+answered a bs b r e k = (e, (ap actingNumbers e ∙ acting-numbers a bs b, (rw e (acting-refused a bs b), k)))

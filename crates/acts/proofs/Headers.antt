@@ -16,7 +16,7 @@ use Rattle.picture.specs.Inner.{Read}
 use Rattle.picture.proofs.Accepted.{accepted-kept}
 use Rattle.picture.proofs.Facts.{read-picture, read-sizes}
 use Rattle.network.specs.Words.{blockCount, inBlock, isHeld}
-use Rattle.network.specs.Rows.{isNearHeld}
+use Rattle.network.specs.Tests.{isNearHeld}
 use Rattle.network.proofs.Blocks.{block-fits, read-block-size, read-blocks}
 use Rattle.acts.specs.declared.Act.{Act}
 use Rattle.acts.specs.Acts.{after, blockSlots, changes, recoverableNear}

@@ -1,20 +1,22 @@
 -- An act's number is that of the first rule that is broken, and an act is done exactly where every rule is kept. Assumes nothing.
-use mathlib.Core.Path.{_≡_, refl, sym, subst}
+use mathlib.Core.Path.{_≡_, refl}
 use mathlib.Core.Bool.{Bool, true, false, not, _&&_}
 use mathlib.Core.Logic.{_≢_}
 use mathlib.Core.List.{List, [], _∷_}
-use Prim.Native.Nat.{ℕ, _+_, _*_}
+use Prim.Native.Nat.{ℕ, _+_, _*_, _<_}
 use native.Mathlib.Omega.{arith}
-use native.Mathlib.Decide.{ℕ-discrete}
 use borrow.Author.Tests.{eq-eqb, ne-eqb}
 use lib.Dec.{T, eqb, leb, ltb, T-not, not-T, eqb→eq, leb→le, nleb→lt, ltb→lt, lt→ltb}
 use Rattle.lists.specs.Lists.{range, on, any}
-use Rattle.lists.specs.Rules.{Judged, broken, passed, more, none}
+use Rattle.lists.specs.Rules.{Judged, AllHold, more, none}
 use Rattle.lists.proofs.Tests.{and-T, T-and, eq-T}
 use Rattle.lists.proofs.Ranges.{any-range, range-any}
-use Rattle.lists.proofs.Faults.{on-zero, on-true, on-told, first-zero, first-skip, first-stop, judge, judge-test, judge-right, judge-none, all-judged}
+use Rattle.lists.proofs.Faults.{on-zero, on-true, on-told, judge, judge-test, judge-right, judge-none, Numbered, judged-all, all-judged}
+use Rattle.lists.proofs.Rules.{judged-then, numbered-both, hold-both}
 use Rattle.picture.specs.Picture.{Picture, pictureOf, slotOf}
 use Rattle.picture.specs.Faults.{pictureFault}
+use Rattle.picture.specs.Rules.{rules}
+use Rattle.picture.proofs.Accepted.{judged as picture-judged, numbered}
 use Rattle.network.specs.Words.{slotCount, blockCount, inBlock, Admissible}
 use Rattle.network.specs.Tests.{weighed}
 use Rattle.network.proofs.Named.{Named, accepted-named}
@@ -24,7 +26,7 @@ use Rattle.weigh.specs.Weighing.{blockFault}
 use Rattle.acts.specs.declared.Act.{Act}
 use Rattle.acts.specs.declared.Act.the-variants.{Evict, Reload, Free}
 use Rattle.acts.specs.Acts.{after, blockSlots, changes, cutFault, recoverableNear, nearAfter, nearFault, actFault, doneBytes, actBytes}
-use Rattle.acts.specs.Rules.{Changes, Spares, Crowds, Leaves, actRules, Doable}
+use Rattle.acts.specs.Rules.{Changes, Spares, Crowds, Leaves, actRules}
 use Rattle.acts.proofs.Slots.{in-block, block-in}
 
 module _ (p : Picture) (b : ℕ) where
@@ -104,47 +106,44 @@ module _ (p : Picture) (b : ℕ) where
 
 -- ---- the number, and when an act is done
 
+-- every rule is kept, as a record
+pub record Doable (a : Act) (bs : List ℕ) (b : ℕ) : Type 0 where
+  pub accepted : pictureFault bs ≡ 0
+  pub there : b < blockCount (pictureOf bs)
+  pub changes : Changes a (pictureOf bs) b
+  pub spares : Spares a (pictureOf bs) b
+  pub leaves : Leaves a (pictureOf bs) b
+
 module _ (a : Act) (bs : List ℕ) (b : ℕ) where
   -- which number
   pub judged : Judged (actRules a bs b) (actFault a bs b)
   unfolding actRules actFault blockFault
-  judged = go (ℕ-discrete (pictureFault bs) 0)
-    where
-      p : Picture
-      p = pictureOf bs
+  judged =
+      let p = pictureOf bs in
+      judged-then _ (picture-judged bs) (numbered bs)
+      (λ z.
+      judge-test _ _ (leb (blockCount p) b) _ (λ e. absurd (omega arith)) (nleb→lt (blockCount p) b) (λ t l. absurd (omega (arith, leb→le (blockCount p) b t)))
+      (judge-right _ _ (changes a p b) _ (λ e. absurd (omega arith)) (test-changes p b a) (changes-test p b)
+      (judge _ _ (cutFault a p b) _ (cut-spares p b (accepted-named bs z) a) (cut-breaks p b (accepted-named bs z) a)
+      (judge _ _ (nearFault a p b) _ (near-leaves p b a) (near-breaks p b a) judge-none))))
 
-      go : Dec (pictureFault bs ≡ 0) → Judged (actRules a bs b) (actFault a bs b)
-      go (no z) = subst (Judged (actRules a bs b)) (sym (first-stop (pictureFault bs) _ z)) (broken z)
-      go (yes z) =
-          subst (Judged (actRules a bs b)) (sym (first-skip (pictureFault bs) _ z))
-          (passed z
-          (judge-test _ _ (leb (blockCount p) b) _ (λ e. absurd (omega arith)) (nleb→lt (blockCount p) b) (λ t l. absurd (omega (arith, leb→le (blockCount p) b t)))
-          (judge-right _ _ (changes a p b) _ (λ e. absurd (omega arith)) (test-changes p b a) (changes-test p b)
-          (judge _ _ (cutFault a p b) _ (cut-spares p b (accepted-named bs z) a) (cut-breaks p b (accepted-named bs z) a)
-          (judge _ _ (nearFault a p b) _ (near-leaves p b a) (near-breaks p b a) judge-none)))))
+  act-numbered : Numbered (actRules a bs b)
+  unfolding actRules
+  act-numbered =
+      numbered-both (rules bs) _ (numbered bs) (λ e. absurd (omega arith), (λ e. absurd (omega arith), (λ e. absurd (omega arith), (λ e. absurd (omega arith), tt))))
 
   -- done exactly where every rule is kept
-  pub done-doable : actFault a bs b ≡ 0 → Doable a bs b
-  unfolding actFault blockFault
-  done-doable e =
-      let p = pictureOf bs in
-      let faults : List ℕ = pictureFault bs ∷ blockFault p b ∷ on (not (changes a p b)) 11 ∷ cutFault a p b ∷ nearFault a p b ∷ [] in
-      let z : pictureFault bs ≡ 0 = first-zero faults e 0 in
-      record {
-        accepted = z;
-        there = nleb→lt (blockCount p) b (on-zero (leb (blockCount p) b) 7 (first-zero faults e 1));
-        changes = test-changes p b a (not-not (changes a p b) (on-zero (not (changes a p b)) 10 (first-zero faults e 2)));
-        spares = cut-spares p b (accepted-named bs z) a (first-zero faults e 3);
-        leaves = near-leaves p b a (first-zero faults e 4);
-      }
-    where
-      not-not : (x : Bool) → T (not (not x)) → T x
-      not-not true t = tt
-      not-not false t = t
+  pub done-holds : actFault a bs b ≡ 0 → AllHold (actRules a bs b)
+  done-holds z = judged-all judged act-numbered z
+
+  pub holds-done : AllHold (actRules a bs b) → actFault a bs b ≡ 0
+  holds-done k = all-judged judged k
 
   pub doable-done : Doable a bs b → actFault a bs b ≡ 0
   unfolding actRules
-  doable-done d = all-judged judged (more (d .accepted) (more (d .there) (more (d .changes) (more (d .spares) (more (d .leaves) none)))))
+  doable-done d =
+      holds-done
+      (hold-both (judged-all (picture-judged bs) (numbered bs) (d .accepted)) (more (d .there) (more (d .changes) (more (d .spares) (more (d .leaves) none)))))
 
   -- ---- the bytes at exit
 

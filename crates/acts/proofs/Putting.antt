@@ -14,8 +14,8 @@ use Rattle.picture.specs.Inner.{Read}
 use Rattle.picture.proofs.Starts.{field-first, slot-row, ordered, rounded}
 use Rattle.picture.proofs.Facts.{read-picture, read-limited}
 use Rattle.acts.specs.declared.Act.{Act}
-use Rattle.acts.specs.Acts.{after, putStates, doneBytes}
-use Rattle.acts.proofs.States.{stateAt, field-beside}
+use Rattle.acts.specs.Acts.{after, stateAt, putStates, doneBytes}
+use Rattle.acts.proofs.States.{field-beside}
 use Rattle.acts.proofs.Headers.{read-long, read-block-slots}
 
 -- a field before the slots of a range reads as it did
@@ -46,6 +46,7 @@ module _ (a : Act) (bs : List ℕ) (h : Header) (r : Read bs h) where
   put-one : (i k : ℕ) (now next : List ℕ) → i + suc k ≤ h .slots → now ≡ putStates edition1 (state-after a bs) bs (range (suc (suc i)) k)
       → next ≡ putField now (slotsAt edition1 + i * sum slotWidths) 2 (after a (slotOf (pictureWith edition1 h now) (suc i) .state))
       → next ≡ putStates edition1 (state-after a bs) bs (range (suc i) (suc k))
+  unfolding stateAt
   put-one i k now next l e n =
       let within : i < h .slots = omega arith in
       let fits : suc i + k ≤ h .slots = omega arith in

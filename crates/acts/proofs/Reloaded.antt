@@ -10,7 +10,7 @@ use lib.ListN.{length}
 use Rattle.lists.specs.Lists.{range, filter}
 use Rattle.picture.specs.Picture.{Picture, Slot, slotOf}
 use Rattle.network.specs.Words.{slotCount, inBlock, isHeld}
-use Rattle.network.specs.Rows.{isNearHeld}
+use Rattle.network.specs.Tests.{isNearHeld}
 use Rattle.acts.specs.declared.Act.the-variants.{Reload}
 use Rattle.acts.specs.Acts.{after, slotAfter, actOn, recoverableNear, nearAfter}
 use Rattle.acts.proofs.Slots.{slots-acted, slot-acted, state-past, near-acted}

@@ -10,12 +10,8 @@ use Rattle.bits.specs.Bits.{bitAt, fieldAt, putField}
 use Rattle.bits.proofs.Reading.{number-ext}
 use Rattle.bits.proofs.Writing.{length-putField, putField-out, field-put, field-put-other}
 use Rattle.lists.specs.Lists.{range, sum}
-use Rattle.picture.specs.Layout.{Edition, slotWidths, slotsAt}
-use Rattle.acts.specs.Acts.{putStates}
-
--- the bit at which the slot with i slots before it starts, and with it its state
-unfoldable pub stateAt : Edition → ℕ → ℕ
-stateAt e i = slotsAt e + i * sum slotWidths
+use Rattle.picture.specs.Layout.{Edition, slotWidths}
+use Rattle.acts.specs.Acts.{stateAt, putStates}
 
 module _ (e : Edition) (f : ℕ → ℕ) (bs : List ℕ) where
   pub length-putStates : (vs : List ℕ) → length (putStates e f bs vs) ≡ length bs

@@ -1,8 +1,8 @@
 -- The acts: evict, reload and free. Document 01, "Checking and evicting". Assumes nothing.
 use mathlib.Core.Bool.{Bool, not, _&&_, _||_, cond}
 use mathlib.Core.List.{List, [], _∷_, map}
-use Prim.Native.Nat.{ℕ, zero, suc, _+_, _*_}
-use lib.Dec.{eqb, ltb}
+use Prim.Native.Nat.{ℕ, zero, suc, _+_, _*_, _≤_, _<_}
+use lib.Dec.{T, eqb, ltb}
 use lib.ListN.{length}
 use Rattle.bits.specs.Bits.{putField}
 use Rattle.lists.specs.Lists.{range, on, first, sum, any, filter}
@@ -11,7 +11,7 @@ use Rattle.picture.specs.Picture.{Picture, Slot, pictureOf, slotOf}
 use Rattle.picture.specs.Faults.{pictureFault}
 use Rattle.network.specs.Words.{slotCount, inBlock}
 use Rattle.network.specs.Tests.{weighed}
-use Rattle.network.specs.Rows.{isNearHeld}
+use Rattle.network.specs.Tests.{isNearHeld}
 use Rattle.weigh.specs.Weighing.{blockFault}
 use Rattle.acts.specs.declared.Act.{Act}
 use Rattle.acts.specs.declared.Act.the-variants.{Evict, Reload, Free}
@@ -59,11 +59,22 @@ actFault a bs b =
     let p : Picture = pictureOf bs in
     first (pictureFault bs ∷ blockFault p b ∷ on (not (changes a p b)) 11 ∷ cutFault a p b ∷ nearFault a p b ∷ [])
 
+-- the bit at which the slot with i slots before it starts, and with it its state
+unfoldable pub stateAt : Edition → ℕ → ℕ
+stateAt e i = slotsAt e + i * sum slotWidths
+
+-- bit m is one of the two of the state of a slot of block b
+pub record StateBit (e : Edition) (p : Picture) (b m : ℕ) : Type 0 where
+  pub before : ℕ
+  pub inside : T (inBlock p b (suc before))
+  pub from : stateAt e before ≤ m
+  pub below : m < stateAt e before + 2
+
 -- the bytes with the state of each slot of a list set by f: the state bits only
 unfoldable pub putStates : Edition → (ℕ → ℕ) → List ℕ → List ℕ → List ℕ
 putStates e f bs [] = bs
 putStates e f bs (zero ∷ vs) = putStates e f bs vs
-putStates e f bs (suc i ∷ vs) = putField (putStates e f bs vs) (slotsAt e + i * sum slotWidths) 2 (f (suc i))
+putStates e f bs (suc i ∷ vs) = putField (putStates e f bs vs) (stateAt e i) 2 (f (suc i))
 
 -- the picture's bytes where the act is done
 unfoldable pub doneBytes : Act → List ℕ → ℕ → List ℕ

@@ -1,12 +1,12 @@
--- When an act is done, and the rules that it is judged by, in their order. Document 01, "Checking and evicting". Assumes nothing.
-use mathlib.Core.List.{List, [], _∷_}
+-- The rules that an act is judged by, in their order. Document 01, "Checking and evicting". Assumes nothing.
+use mathlib.Core.List.{List, [], _∷_, _++_}
 use mathlib.Core.Path.{_≡_}
 use mathlib.Core.Logic.{_≢_}
 use Prim.Native.Nat.{ℕ, _<_}
 use lib.Dec.{T}
 use Rattle.lists.specs.Rules.{Rule}
 use Rattle.picture.specs.Picture.{Picture, pictureOf, slotOf}
-use Rattle.picture.specs.Faults.{pictureFault}
+use Rattle.picture.specs.Rules.{rules}
 use Rattle.network.specs.Words.{blockCount, inBlock, Admissible}
 use Rattle.acts.specs.declared.Act.{Act}
 use Rattle.acts.specs.declared.Act.the-variants.{Evict, Reload, Free}
@@ -38,20 +38,12 @@ Leaves Evict p b = Unit {0}
 Leaves Reload p b = ¬ Crowds p b
 Leaves Free p b = Unit {0}
 
--- the rules with their numbers: "Acts are judged in the order picture, 8, 11, 10, 12". The picture's number is that of its first fault
+-- the rules with their numbers: "Acts are judged in the order picture, 8, 11, 10, 12". "An act without a fault is done"
 unfoldable pub actRules : Act → List ℕ → ℕ → List Rule
 actRules a bs b =
-    record { number = pictureFault bs; holds = pictureFault bs ≡ 0 }
-    ∷ record { number = 8; holds = b < blockCount (pictureOf bs) }
+    rules bs
+    ++ (record { number = 8; holds = b < blockCount (pictureOf bs) }
     ∷ record { number = 11; holds = Changes a (pictureOf bs) b }
     ∷ record { number = 10; holds = Spares a (pictureOf bs) b }
     ∷ record { number = 12; holds = Leaves a (pictureOf bs) b }
-    ∷ []
-
--- every rule is kept: "an act without a fault is done"
-pub record Doable (a : Act) (bs : List ℕ) (b : ℕ) : Type 0 where
-  pub accepted : pictureFault bs ≡ 0
-  pub there : b < blockCount (pictureOf bs)
-  pub changes : Changes a (pictureOf bs) b
-  pub spares : Spares a (pictureOf bs) b
-  pub leaves : Leaves a (pictureOf bs) b
+    ∷ [])

@@ -1,28 +1,26 @@
 // The acts on a block of a lent picture: evict, reload and free.
 ghost use mathlib.Core.Path.{_≡_};
 ghost use mathlib.Core.Bool.{_&&_, _||_};
+ghost use mathlib.Core.List.{[]};
+ghost use mathlib.Core.Logic.{_≢_};
 ghost use Prim.Native.Nat.{_≤_, _<_};
 ghost use lib.Dec.{eqb};
-ghost use Rattle.lists.specs.Lists.{range, on, any};
+ghost use Rattle.lists.specs.Lists.{range, on, any, outcome};
 ghost use Rattle.picture.specs.Picture.{pictureOf, slotOf};
 ghost use Rattle.picture.specs.Inner.{Read};
 ghost use Rattle.network.specs.Words.{slotCount, blockCount};
 ghost use Rattle.network.specs.Tests.{weighed};
-ghost use Rattle.network.specs.Rows.{isNearHeld};
-ghost use Rattle.acts.specs.Acts.{after, changes, cutFault, recoverableNear, nearAfter, nearFault, actFault, doneBytes, actBytes, acting};
+ghost use Rattle.network.specs.Tests.{isNearHeld};
+ghost use Rattle.acts.specs.Acts.{after, changes, cutFault, recoverableNear, nearAfter, nearFault, actFault, doneBytes, actBytes, acting, actingNumbers};
 use picture::FREED;
 use picture::HELD;
 use picture::Header;
 use picture::RECOVERABLE;
 use picture::Reading;
-use weigh::NO_BLOCK;
-
-// The numbers of the faults of acts.
-const PROTECTED: u8 = 10;
-
-const NO_CHANGE: u8 = 11;
-
-const NEAR: u8 = 12;
+use picture::refusals::NEAR;
+use picture::refusals::NO_BLOCK;
+use picture::refusals::NO_CHANGE;
+use picture::refusals::PROTECTED;
 
 // What is done to a block.
 pub enum Act {
@@ -236,7 +234,9 @@ fn put_states(s: &mut [u8], h: Header, a: Act, b: usize)
 // An act on block b of a picture of any bytes: done, or refused, and then no byte is written.
 fn apply(s: &mut [u8], a: Act, b: u32) -> Acting
     ensures answer { λ r. ⌜ r ≡ acting a (now (s .entry)) b ⌝ }
-    ensures bytes { λ r. ⌜ now (s .exit) ≡ actBytes a (now (s .entry)) b ⌝ }
+    ensures numbers { λ r. ⌜ actingNumbers r ≡ outcome (actFault a (now (s .entry)) b) [] ⌝ }
+    ensures refusals { λ r. ⌜ r ≢ Acting.Refused 0 ⌝ }
+    ensures bytes { λ _. ⌜ now (s .exit) ≡ actBytes a (now (s .entry)) b ⌝ }
 {
     match picture::read(s) {
         Reading::Refused(number) => Acting::Refused(number),
@@ -254,7 +254,9 @@ fn apply(s: &mut [u8], a: Act, b: u32) -> Acting
 // The held slots of block b become recoverable.
 pub fn evict(s: &mut [u8], b: u32) -> Acting
     ensures answer { λ r. ⌜ r ≡ acting Act.Evict (now (s .entry)) b ⌝ }
-    ensures bytes { λ r. ⌜ now (s .exit) ≡ actBytes Act.Evict (now (s .entry)) b ⌝ }
+    ensures numbers { λ r. ⌜ actingNumbers r ≡ outcome (actFault Act.Evict (now (s .entry)) b) [] ⌝ }
+    ensures refusals { λ r. ⌜ r ≢ Acting.Refused 0 ⌝ }
+    ensures bytes { λ _. ⌜ now (s .exit) ≡ actBytes Act.Evict (now (s .entry)) b ⌝ }
 {
     apply(s, Act::Evict, b)
 }
@@ -262,7 +264,9 @@ pub fn evict(s: &mut [u8], b: u32) -> Acting
 // The recoverable slots of block b become held.
 pub fn reload(s: &mut [u8], b: u32) -> Acting
     ensures answer { λ r. ⌜ r ≡ acting Act.Reload (now (s .entry)) b ⌝ }
-    ensures bytes { λ r. ⌜ now (s .exit) ≡ actBytes Act.Reload (now (s .entry)) b ⌝ }
+    ensures numbers { λ r. ⌜ actingNumbers r ≡ outcome (actFault Act.Reload (now (s .entry)) b) [] ⌝ }
+    ensures refusals { λ r. ⌜ r ≢ Acting.Refused 0 ⌝ }
+    ensures bytes { λ _. ⌜ now (s .exit) ≡ actBytes Act.Reload (now (s .entry)) b ⌝ }
 {
     apply(s, Act::Reload, b)
 }
@@ -270,7 +274,9 @@ pub fn reload(s: &mut [u8], b: u32) -> Acting
 // The held and the recoverable slots of block b become freed.
 pub fn free(s: &mut [u8], b: u32) -> Acting
     ensures answer { λ r. ⌜ r ≡ acting Act.Free (now (s .entry)) b ⌝ }
-    ensures bytes { λ r. ⌜ now (s .exit) ≡ actBytes Act.Free (now (s .entry)) b ⌝ }
+    ensures numbers { λ r. ⌜ actingNumbers r ≡ outcome (actFault Act.Free (now (s .entry)) b) [] ⌝ }
+    ensures refusals { λ r. ⌜ r ≢ Acting.Refused 0 ⌝ }
+    ensures bytes { λ _. ⌜ now (s .exit) ≡ actBytes Act.Free (now (s .entry)) b ⌝ }
 {
     apply(s, Act::Free, b)
 }

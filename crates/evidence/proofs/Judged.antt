@@ -9,9 +9,10 @@ use native.Mathlib.Omega.{arith}
 use lib.Dec.{T, eqb, eqb→eq}
 use lib.ListN.{length, getD}
 use Rattle.lists.specs.Lists.{range, on, first}
-use Rattle.lists.specs.Rules.{Rule, Judged, kept, broken, passed}
+use Rattle.lists.specs.Rules.{Judged}
 use Rattle.lists.proofs.Tests.{eq-T}
-use Rattle.lists.proofs.Faults.{first-stop, judge-none, Numbered}
+use Rattle.lists.proofs.Faults.{judge-none, Numbered}
+use Rattle.lists.proofs.Rules.{right-then, judged-then}
 use Rattle.picture.specs.Layout.{Edition, editionOf}
 use Rattle.picture.specs.Picture.{Picture, pictureOf}
 use Rattle.picture.proofs.Accepted.{judged, numbered}
@@ -25,19 +26,6 @@ use Rattle.evidence.specs.Rules.{sectionRules, evidenceRulesWith, checkR
 use Rattle.evidence.proofs.Forests.{right-kept, kept-right}
 use Rattle.evidence.proofs.Weighings.{weighings-length, weighing-at, candidate-below}
 use Rattle.evidence.proofs.Judging.{forestTest, numbersTest, test-numbers, numbers-test, right-form, form-right, right-served, served-right, right-numbers, numbers-right, right-verdict, verdict-right}
-
--- ---- rules of which the later ones are judged where the earlier ones hold
-
-right-then : (r : Rule) (rs : List Rule) (b : Bool) (l : List ℕ) → r .number ≢ 0 → (T b → r .holds) → (r .holds → T b) → (r .holds → Judged rs (first l)) → Judged (r ∷ rs) (first (on (not b) (r .number) ∷ l))
-unfolding on first
-right-then r rs true l nz y n j = passed (y tt) (j (y tt))
-right-then r rs false l nz y n j = subst (Judged (r ∷ rs)) (sym (first-stop (r .number) l nz)) (broken n)
-
-judged-then : {rs ss : List Rule} {k : ℕ} (l : List ℕ) → Judged rs k → Numbered rs → (k ≡ 0 → Judged ss (first l)) → Judged (rs ++ ss) (first (k ∷ l))
-unfolding first
-judged-then l kept m j = j refl
-judged-then {ss = ss} l (broken {r = r} {rs = rs} b) m j = subst (Judged (r ∷ (rs ++ ss))) (sym (first-stop (r .number) l (m .0))) (broken b)
-judged-then l (passed h q) m j = passed h (judged-then l q (m .1) j)
 
 -- ---- the sections
 

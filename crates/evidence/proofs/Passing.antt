@@ -1,12 +1,13 @@
 -- Evidence passes the check exactly where it keeps the rules, and the rules as a record. Assumes nothing.
 use mathlib.Core.Path.{_≡_, refl, subst}
-use mathlib.Core.List.{List, [], _∷_, _++_}
+use mathlib.Core.List.{List, [], _∷_}
 use Prim.Native.Nat.{ℕ, zero, suc, _+_, _≤_, _<_}
 use native.Mathlib.Omega.{arith}
 use native.Mathlib.Decide.{ℕ-discrete}
 use lib.ListN.{length, getD}
 use Rattle.lists.specs.Rules.{Rule, AllHold, none, more}
 use Rattle.lists.proofs.Faults.{Numbered, judged-all, all-judged}
+use Rattle.lists.proofs.Rules.{numbered-both, hold-left, hold-right, hold-both}
 use Rattle.graph.specs.Kept.{ForestKept}
 use Rattle.picture.specs.Layout.{Edition, editionOf}
 use Rattle.picture.specs.Picture.{Picture, pictureOf}
@@ -20,10 +21,6 @@ use Rattle.evidence.specs.Rules.{Form, SectionForest, Numbers, Verdict, 
 use Rattle.evidence.proofs.Judged.{check-judged, sections-numbered}
 
 -- ---- the check passes exactly where every rule holds
-
-numbered-both : (rs ss : List Rule) → Numbered rs → Numbered ss → Numbered (rs ++ ss)
-numbered-both [] ss a b = b
-numbered-both (r ∷ rs) ss a b = (a .0, numbered-both rs ss (a .1) b)
 
 module _ (bs ev : List ℕ) where
   check-numbered : Numbered (checkRules bs ev)
@@ -54,19 +51,6 @@ pub record Passes (bs ev : List ℕ) : Type 0 where
   pub served : ServedWeight (pictureOf bs) (isHeld (pictureOf bs)) (headIn ev .served)
   pub sections : (i : ℕ) → i < length (candidates (pictureOf bs)) → Section (editionOf bs) (pictureOf bs) ev i (getD (candidates (pictureOf bs)) i 0)
   pub verdict : Verdict (pictureOf bs) (headIn ev .verdict) (headIn ev .block) (headIn ev .loss)
-
--- rules of two lists
-hold-left : (rs ss : List Rule) → AllHold (rs ++ ss) → AllHold rs
-hold-left [] ss a = none
-hold-left (r ∷ rs) ss (more h a) = more h (hold-left rs ss a)
-
-hold-right : (rs ss : List Rule) → AllHold (rs ++ ss) → AllHold ss
-hold-right [] ss a = a
-hold-right (r ∷ rs) ss (more h a) = hold-right rs ss a
-
-hold-both : {rs ss : List Rule} → AllHold rs → AllHold ss → AllHold (rs ++ ss)
-hold-both none b = b
-hold-both (more h a) b = more h (hold-both a b)
 
 module _ (e : Edition) (p : Picture) (ev : List ℕ) where
   holds-section : (i k : ℕ) → AllHold (sectionRules e p ev i k) → (j : ℕ) → i ≤ j → j < i + k → Section e p ev j (getD (candidates p) j 0)

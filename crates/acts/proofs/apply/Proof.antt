@@ -3,7 +3,7 @@ use mathlib.Core.Path.{sym, _∙_}
 use borrow.Author.Needs.{needs}
 use Rattle.picture.specs.Inner.{Read}
 use Rattle.picture.proofs.Answering.{accepted-read, refused-fault}
-use Rattle.acts.proofs.Answering.{faulty-picture, refused-answer, refused-bytes, done-answer, done-bytes, done-block}
+use Rattle.acts.proofs.Answering.{answered, faulty-picture, refused-answer, refused-bytes, done-answer, done-bytes, done-block}
 use Rattle.acts.proofs.apply.Statement.{statement}
 use Rattle.acts.proofs.apply.Tie as tie
 
@@ -29,7 +29,7 @@ same-length c = search needs
 returns : tie.Need-returns
 returns c =
     let e = c .before .act-fault .ensures in
-    (refused-answer _ _ _ _ (c .if1 .taken) e, refused-bytes _ _ _ _ (c .if1 .taken) e)
+    answered _ _ _ _ (refused-answer _ _ _ _ (c .if1 .taken) e) (refused-bytes _ _ _ _ (c .if1 .taken) e)
 
 put-states-requires : tie.Need-put-states-requires
 put-states-requires c κs =
@@ -43,7 +43,7 @@ returns-2 : tie.Need-returns-2
 returns-2 c =
     let r = refused-fault _ _ (sym (c .before .number .given .1) ∙ c .before .before .before .read .ensures .0) in
     let e = faulty-picture _ _ _ _ (r .1) (r .0) in
-    (refused-answer _ _ _ _ (r .1) e, refused-bytes _ _ _ _ (r .1) e)
+    answered _ _ _ _ (refused-answer _ _ _ _ (r .1) e) (refused-bytes _ _ _ _ (r .1) e)
 
 same-length-3 : tie.Need-same-length-3
 same-length-3 c = search needs
@@ -52,7 +52,7 @@ returns-3 : tie.Need-returns-3
 returns-3 c =
     let k = c .before .before .before .before in
     let e = k .before .act-fault .ensures in
-    (done-answer _ _ _ _ (k .if1 .left) e, c .before .before .put-states .ensures ∙ done-bytes _ _ _ _ (k .if1 .left) e)
+    answered _ _ _ _ (done-answer _ _ _ _ (k .if1 .left) e) (c .before .before .put-states .ensures ∙ done-bytes _ _ _ _ (k .if1 .left) e)
 
 pub apply-spec : {M : Type 1} → statement M
 apply-spec =

@@ -12,7 +12,7 @@ use Rattle.picture.specs.Picture.{pictureOf}
 use Rattle.picture.specs.Inner.{Read}
 use Rattle.picture.proofs.Facts.{read-limited}
 use Rattle.network.specs.Words.{slotCount, blockCount}
-use Rattle.network.specs.Rows.{isNearHeld}
+use Rattle.network.specs.Tests.{isNearHeld}
 use Rattle.network.proofs.Blocks.{read-slots}
 use Rattle.acts.specs.Acts.{recoverableNear, nearAfter}
 use Rattle.lists.proofs.Scans.{count-begun, count-hit, count-miss, count-le}
