@@ -24,7 +24,7 @@ use Rattle.evidence.specs.Calls.{lengthFor, chooseFault, chosenBytes, shownPart
 use Rattle.choose.specs.Answers.{choosingOf, choosing, choosingNumbers}
 use Rattle.checker.specs.Answers.{checkingOf, checking, checkingNumbers}
 use Rattle.acts.specs.Acts.{after, blockSlots, changes, cutFault, recoverableNear, nearAfter, nearFault, actFault, putStates, doneBytes, actBytes, actingOf, acting, actingNumbers}
-use Rattle.listing.specs.Text.{places, decimal}
+use Rattle.listing.specs.Decimal.{places, decimal}
 use Rattle.listing.specs.Listing.{servedWord, blockWord, lostWord, markWord, chooseWord, noneWord, refusedWord, lineEnd, item as listItem, servedLine, blockLine, choiceLine, refusedLine, planLines, listingOf, listing}
 use Rattle.examples.specs.Cases.{evidenceA, linesA, caseA, caseB, caseC, caseD, caseE, caseF, caseG, caseH, caseI, caseJ, caseK, caseM}
 use Rattle.examples.specs.Table.{answer, Row, slotsOnly, freedA, table}

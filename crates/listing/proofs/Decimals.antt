@@ -18,7 +18,8 @@ use Rattle.lists.proofs.Picks.{getD-range}
 use Rattle.bits.specs.Bits.{fieldAt}
 use Rattle.bits.proofs.Reading.{fieldAt-below}
 use Rattle.io.specs.Digits.{digits, Fewest}
-use Rattle.listing.specs.Text.{places, decimal, Texted}
+use Rattle.listing.specs.Decimal.{places, decimal}
+use Rattle.listing.specs.Text.{Texted}
 use Rattle.listing.specs.Listing.{item}
 
 -- the place of the first number that passes is j, where the j before it do not and it does, or the numbers end

@@ -2,6 +2,6 @@
 pub mod Texts
 pub mod Decimals
 pub mod Lines
-pub mod Told
+pub mod ByEvidence
 pub mod Answering
 pub mod Long

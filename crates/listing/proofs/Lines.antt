@@ -15,7 +15,7 @@ use Rattle.evidence.specs.Checks.{headIn}
 use Rattle.evidence.proofs.Places.{block-at, loss-at, mark-at}
 use Rattle.listing.specs.Text.{Texted}
 use Rattle.listing.specs.Listing.{servedWord, blockWord, lostWord, markWord, chooseWord, lineEnd, item, servedLine, blockLine, choiceLine}
-use Rattle.listing.specs.Told.{sectionLine, sectionLines}
+use Rattle.listing.specs.ByEvidence.{sectionLine, sectionLines}
 use Rattle.listing.proofs.Texts.{text-none, text-long, text-then}
 use Rattle.listing.proofs.Decimals.{item-short, field-small}
 

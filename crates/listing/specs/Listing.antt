@@ -9,7 +9,7 @@ use Rattle.network.specs.declared.Cost.{Cost}
 use Rattle.network.specs.Tests.{servedWeight}
 use Rattle.evidence.specs.declared.Choice.{Choice}
 use Rattle.evidence.specs.Canonical.{weighings, least}
-use Rattle.listing.specs.Text.{decimal}
+use Rattle.listing.specs.Decimal.{decimal}
 
 -- ---- the words, byte by byte
 

@@ -8,22 +8,11 @@ ghost use Rattle.rows.specs.Rows.{slotsMax};
 ghost use Rattle.picture.specs.Layout.{blocksMax};
 ghost use Rattle.evidence.specs.Checks.{headIn};
 ghost use Rattle.listing.specs.Text.{textMax, Texted};
-ghost use Rattle.listing.specs.Listing.{item, servedLine, choiceLine, refusedLine, listing};
-ghost use Rattle.listing.specs.Told.{sectionLine, evidenceLines};
-use choose::Choosing;
-use evidence::BLOCK_AT;
-use evidence::BLOCK_BITS;
-use evidence::COUNT_AT;
-use evidence::COUNT_BITS;
+ghost use Rattle.listing.specs.Listing.{item, servedLine, blockLine, choiceLine, refusedLine, listing};
+ghost use Rattle.listing.specs.ByEvidence.{evidenceLines};
 use evidence::EVIDENCE_MAX;
-use evidence::LOSS_AT;
-use evidence::MARK_BITS;
-use evidence::SECTION_LOSS_AT;
-use evidence::SECTION_MARK_AT;
-use evidence::SERVED_AT;
-use evidence::VERDICT_AT;
-use evidence::VERDICT_BITS;
-use evidence::WEIGHT_BITS;
+use evidence::Head;
+use network::Cost;
 use picture::Reading;
 
 // More than the longest text takes: 62 lines of at most 43 bytes.
@@ -53,47 +42,38 @@ fn put_item(text: &mut [u8], at: usize, word: &[u8], number: usize) -> usize
     put_word(text, then, &digits[..k])
 }
 
-// Puts the line of the served weight that the evidence states.
-fn put_served_line(text: &mut [u8], at: usize, ev: &[u8]) -> usize
-    requires { ⌜ at + 43 ≤ length (now text) ⌝ }
-    ensures { λ r. ⌜ Texted (now (text .entry)) at (servedLine (headIn (now (ev .entry)) .served)) (now (text .exit)) r ⌝ }
+// Puts the line of the served weight.
+fn put_served_line(text: &mut [u8], at: usize, weight: usize) -> usize
+    requires { ⌜ (weight < 10 ^ 8) × (at + 43 ≤ length (now text)) ⌝ }
+    ensures { λ r. ⌜ Texted (now (text .entry)) at (servedLine weight) (now (text .exit)) r ⌝ }
 {
-    let weight = bits::field(ev, SERVED_AT, WEIGHT_BITS);
     let then = put_item(text, at, b"served ", weight);
     put_word(text, then, b"\n")
 }
 
-// Puts the line of section i.
-fn put_block_line(text: &mut [u8], at: usize, ev: &[u8], n: usize, i: usize) -> usize
-    requires { ⌜ (n ≤ slotsMax) × (i ≤ 255) × (at + 43 ≤ length (now text)) ⌝ }
-    ensures { λ r. ⌜ Texted (now (text .entry)) at (sectionLine n (now (ev .entry)) i) (now (text .exit)) r ⌝ }
+// Puts the line of a candidate.
+fn put_block_line(text: &mut [u8], at: usize, w: Cost) -> usize
+    requires { ⌜ (w .block < 10 ^ 8) × (w .loss < 10 ^ 8) × (w .mark < 10 ^ 8) × (at + 43 ≤ length (now text)) ⌝ }
+    ensures { λ r. ⌜ Texted (now (text .entry)) at (blockLine w) (now (text .exit)) r ⌝ }
 {
-    let q = evidence::section_at(n, i);
-    let block = bits::field(ev, q, BLOCK_BITS);
-    let loss = bits::field(ev, q + SECTION_LOSS_AT, WEIGHT_BITS);
-    let mark = bits::field(ev, q + SECTION_MARK_AT, MARK_BITS);
-    let lost_at = put_item(text, at, b"block ", block);
-    let mark_at = put_item(text, lost_at, b" lost ", loss);
-    let then = put_item(text, mark_at, b" mark ", mark);
+    let lost_at = put_item(text, at, b"block ", w.block);
+    let mark_at = put_item(text, lost_at, b" lost ", w.loss);
+    let then = put_item(text, mark_at, b" mark ", w.mark);
     put_word(text, then, b"\n")
 }
 
-// Puts the line of the choice.
-fn put_choice_line(text: &mut [u8], at: usize, ev: &[u8]) -> usize
-    requires { ⌜ at + 43 ≤ length (now text) ⌝ }
-    ensures { λ r.
-        ⌜ Texted (now (text .entry)) at (choiceLine (headIn (now (ev .entry)) .verdict) (headIn (now (ev .entry)) .block) (headIn (now (ev .entry)) .loss))
-        (now (text .exit)) r ⌝ }
+// Puts the line of the choice that the head of evidence states.
+fn put_choice_line(text: &mut [u8], at: usize, head: Head) -> usize
+    requires { ⌜ (head .block < 10 ^ 8) × (head .loss < 10 ^ 8) × (at + 43 ≤ length (now text)) ⌝ }
+    ensures { λ r. ⌜ Texted (now (text .entry)) at (choiceLine (head .verdict) (head .block) (head .loss)) (now (text .exit)) r ⌝ }
 {
-    if bits::field(ev, VERDICT_AT, VERDICT_BITS) == 0 {
+    if head.verdict == 0 {
         let none_at = put_word(text, at, b"choose ");
         let then = put_word(text, none_at, b"none");
         return put_word(text, then, b"\n");
     }
-    let block = bits::field(ev, BLOCK_AT, BLOCK_BITS);
-    let loss = bits::field(ev, LOSS_AT, WEIGHT_BITS);
-    let lost_at = put_item(text, at, b"choose ", block);
-    let then = put_item(text, lost_at, b" lost ", loss);
+    let lost_at = put_item(text, at, b"choose ", head.block);
+    let then = put_item(text, lost_at, b" lost ", head.loss);
     put_word(text, then, b"\n")
 }
 
@@ -102,14 +82,14 @@ fn put_lines(text: &mut [u8], ev: &[u8], n: usize) -> usize
     requires { ⌜ (n ≤ slotsMax) × (headIn (now ev) .count ≤ blocksMax) × (textMax ≤ length (now text)) ⌝ }
     ensures { λ r. ⌜ Texted (now (text .entry)) 0 (evidenceLines n (now (ev .entry))) (now (text .exit)) r ⌝ }
 {
-    let count = bits::field(ev, COUNT_AT, COUNT_BITS);
-    let mut at = put_served_line(text, 0, ev);
+    let head = evidence::head_of(ev);
+    let mut at = put_served_line(text, 0, head.served);
     let mut i: usize = 0;
-    while i < count {
-        at = put_block_line(text, at, ev, n, i);
+    while i < head.count {
+        at = put_block_line(text, at, evidence::section_of(ev, n, i));
         i += 1;
     }
-    put_choice_line(text, at, ev)
+    put_choice_line(text, at, head)
 }
 
 // Puts the line of a refusal.
@@ -123,17 +103,17 @@ fn put_refused_line(text: &mut [u8], number: u8) -> usize
 
 // Lists a picture of any bytes: the text from its first byte on, and its length.
 pub fn list(s: &[u8], text: &mut [u8; TEXT_MAX]) -> usize
-    ensures { λ r. ⌜ r ≡ length (listing (now (s .entry))) ⌝ }
-    ensures { λ _. ⌜ now (text .exit) ≡ listing (now (s .entry)) ++ drop (length (listing (now (s .entry)))) (now (text .entry)) ⌝ }
+    ensures size { λ r. ⌜ r ≡ length (listing (now (s .entry))) ⌝ }
+    ensures bytes { λ _. ⌜ now (text .exit) ≡ listing (now (s .entry)) ++ drop (length (listing (now (s .entry)))) (now (text .entry)) ⌝ }
 {
     match picture::read(s) {
         Reading::Refused(number) => put_refused_line(text, number),
         Reading::Accepted(h) => {
             let mut space = [0u8; EVIDENCE_MAX];
-            match choose::choose(s, &mut space) {
-                Choosing::Refused(number) => put_refused_line(text, number),
-                Choosing::Length(length) => put_lines(text, &space[..length], h.slots),
-            }
+            let p = choose::make_plan(s, h);
+            let length = p.length;
+            choose::write_evidence(s, h, p, &mut space);
+            put_lines(text, &space[..length], h.slots)
         }
     }
 }

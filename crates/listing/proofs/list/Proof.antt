@@ -13,7 +13,7 @@ use Rattle.evidence.specs.Calls.{lengthFor}
 use Rattle.evidence.proofs.Fields.{candidates-few, length-evidence}
 use Rattle.evidence.proofs.Held.{evidence-reads}
 use Rattle.listing.proofs.Texts.{text-whole}
-use Rattle.listing.proofs.Told.{plan-told}
+use Rattle.listing.proofs.ByEvidence.{plan-told}
 use Rattle.listing.proofs.Answering.{listing-plan, listing-refused, never-refused, length-told, evidence-written}
 use borrow.Author.Needs.{needs}
 use Rattle.listing.proofs.list.Statement.{statement}

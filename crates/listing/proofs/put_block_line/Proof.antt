@@ -4,7 +4,7 @@ use Prim.Native.Nat.{_+_, _^_, _≤_, _<_}
 use native.Mathlib.Omega.{arith}
 use Rattle.evidence.proofs.Places.{section-small, block-at as block-in, loss-at as loss-in, mark-at as mark-in}
 use Rattle.listing.specs.Listing.{blockWord, lostWord, markWord, lineEnd, blockLine}
-use Rattle.listing.specs.Told.{sectionLine}
+use Rattle.listing.specs.ByEvidence.{sectionLine}
 use Rattle.listing.proofs.Texts.{text-then}
 use Rattle.listing.proofs.Decimals.{item-ends, field-small}
 use borrow.Author.Needs.{needs}

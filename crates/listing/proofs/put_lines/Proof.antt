@@ -7,7 +7,7 @@ use Rattle.lists.specs.Lists.{sum}
 use Rattle.picture.specs.Layout.{fieldIn, blocksMax}
 use Rattle.evidence.specs.Layout.{headWidths}
 use Rattle.evidence.specs.Checks.{headIn}
-use Rattle.listing.specs.Told.{evidenceLines}
+use Rattle.listing.specs.ByEvidence.{evidenceLines}
 use Rattle.listing.proofs.Texts.{text-long, text-then}
 use Rattle.listing.proofs.Lines.{Telling, telling-begun, telling-next}
 use borrow.Author.Needs.{needs}

@@ -19,7 +19,7 @@ use Rattle.evidence.proofs.Picked.{unweighed}
 use Rattle.evidence.proofs.Fields.{length-weighings, weighing-at}
 use Rattle.evidence.proofs.Held.{Reads, evidence-reads}
 use Rattle.listing.specs.Listing.{blockLine, planLines}
-use Rattle.listing.specs.Told.{sectionLine, sectionLines, evidenceLines}
+use Rattle.listing.specs.ByEvidence.{sectionLine, sectionLines, evidenceLines}
 
 module _ (p : Picture) (ev : List ℕ) (r : Reads edition1 p ev) where
   -- the line of section i is that of the i-th candidate
