@@ -14,3 +14,4 @@ pub mod Passing
 pub mod Unique
 pub mod Canonical
 pub mod Showing
+pub mod Repeats

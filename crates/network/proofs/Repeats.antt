@@ -114,7 +114,7 @@ module _ {p q : Picture} (r : Repeated p q) where
   unfolding slotOf
   same-slot = λ i v. item (r .slots i) v (record { state = 2; near = false })
 
-  same-slots : slotCount p ≡ slotCount q
+  pub same-slots : slotCount p ≡ slotCount q
   unfolding slotCount
   same-slots = ap length (r .slots)
 
@@ -126,7 +126,7 @@ module _ {p q : Picture} (r : Repeated p q) where
   unfolding inBlock
   same-block = λ i b v. leb (b * r .blockSize i + 1) v && leb v (b * r .blockSize i + r .blockSize i)
 
-  same-held : isHeld p ≡ isHeld q
+  pub same-held : isHeld p ≡ isHeld q
   unfolding isHeld
   same-held = fun-ext go
     where
@@ -134,7 +134,7 @@ module _ {p q : Picture} (r : Repeated p q) where
       go zero = refl
       go (suc j) = λ i. eqb (same-slot i (suc j) .state) 0
 
-  same-left : heldWithout p ≡ heldWithout q
+  pub same-left : heldWithout p ≡ heldWithout q
   unfolding heldWithout
   same-left = λ i b v. same-held i v && not (same-block i b v)
 
