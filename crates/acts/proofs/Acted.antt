@@ -20,7 +20,8 @@ use Rattle.picture.specs.Layout.{Edition, edition1, headerWidths, slotWidths, e
 use Rattle.picture.specs.Picture.{Picture, Slot, headerIn, headerOf, slotAt, endpointAt, linkAt, rows, pictureWith, pictureOf, slotOf}
 use Rattle.picture.specs.Faults.{pictureFault}
 use Rattle.picture.proofs.Kept.{Kept}
-use Rattle.picture.proofs.Starts.{field-first, field-second, row-at, rounded}
+use Rattle.lists.proofs.Ranges.{map-range-same}
+use Rattle.picture.proofs.Starts.{field-first, field-second, row-at, rows-same, rounded}
 use Rattle.picture.proofs.Accepted.{accepted-kept, kept-accepted}
 use Rattle.network.specs.Words.{slotCount, blockCount, inBlock}
 use Rattle.network.proofs.Named.{slots-counted}
@@ -32,17 +33,8 @@ use Rattle.acts.proofs.Slots.{after-small, block-in, states-known}
 
 -- ---- rows
 
--- two functions that agree place by place give the same list
-map-range-same : {A : Type 0} (f g : ℕ → A) (i j k : ℕ) → ((m : ℕ) → m < k → f (i + m) ≡ g (j + m)) → map f (range i k) ≡ map g (range j k)
-unfolding range
-map-range-same f g i j zero h = refl
-map-range-same {A} f g i j (suc k) h =
-    ap₂ {C = List A} (λ (x : A) (l : List A). x ∷ l) (ap f (sym (add-zero i)) ∙ h 0 (suc-le-suc zero-le) ∙ ap g (add-zero j))
-    (map-range-same f g (suc i) (suc j) k (λ m s. ap f (suc-add i m ∙ sym (add-suc i m)) ∙ h (suc m) (suc-le-suc s) ∙ ap g (add-suc j m ∙ sym (suc-add j m))))
-
-rows-same : {A : Type 0} (f g : ℕ → A) (q w k : ℕ) → ((x : ℕ) → q ≤ x → f x ≡ g x) → rows f q w k ≡ rows g q w k
-unfolding rows
-rows-same f g q w k h = map-range-same (λ i. f (q + i * w)) (λ i. g (q + i * w)) 0 0 k (λ m s. h _ (omega arith))
+rows-from : {A : Type 0} (f g : ℕ → A) (q w k : ℕ) → ((x : ℕ) → q ≤ x → f x ≡ g x) → rows f q w k ≡ rows g q w k
+rows-from f g q w k h = rows-same f g q w k (λ i s. h _ (omega arith))
 
 -- the states of two slots do not meet
 states-apart : (i j : ℕ) → i < j → stateAt edition1 i + 2 ≤ stateAt edition1 j
@@ -229,10 +221,10 @@ module _ (a : Act) (bs : List ℕ) (b : ℕ) (ok : pictureFault bs ≡ 0) (there
         blockSize = h .«block_size»;
         nearLimit = h .«near_limit»;
         slots = slots-after i;
-        endpoints = rows-same (endpointAt done) (endpointAt bs) (endpointsAt edition1 h) (sum endpointWidths) (h .endpoints) endpoint-same i;
-        links = rows-same (linkAt (linkWidths edition1) done) (linkAt (linkWidths edition1) bs) (linksAt edition1 h) (sum (linkWidths edition1)) (h .links)
+        endpoints = rows-from (endpointAt done) (endpointAt bs) (endpointsAt edition1 h) (sum endpointWidths) (h .endpoints) endpoint-same i;
+        links = rows-from (linkAt (linkWidths edition1) done) (linkAt (linkWidths edition1) bs) (linksAt edition1 h) (sum (linkWidths edition1)) (h .links)
             (λ x l. link-same (linkWidths edition1) x (le-trans links-behind l)) i;
-        serviceLinks = rows-same (linkAt (serviceLinkWidths edition1) done) (linkAt (serviceLinkWidths edition1) bs) (serviceLinksAt edition1 h) (sum (serviceLinkWidths edition1)) (h .«service_links»)
+        serviceLinks = rows-from (linkAt (serviceLinkWidths edition1) done) (linkAt (serviceLinkWidths edition1) bs) (serviceLinksAt edition1 h) (sum (serviceLinkWidths edition1)) (h .«service_links»)
             (λ x l. link-same (serviceLinkWidths edition1) x (le-trans services-behind l)) i;
       })
 

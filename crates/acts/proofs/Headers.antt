@@ -1,6 +1,6 @@
 -- The slots of a block of an accepted picture, by its header. Assumes nothing.
 use mathlib.Core.Path.{_≡_, refl, sym, ap, ap₂, _∙_, subst}
-use mathlib.Core.Bool.{Bool, true, false, not, _&&_}
+use mathlib.Core.Bool.{Bool, true, false, not, _&&_, and-comm}
 use mathlib.Core.List.{List}
 use Prim.Native.Nat.{ℕ, zero, suc, _+_, _*_, _≤_, _<_}
 use native.Mathlib.Nat.{not-suc-le-zero}
@@ -62,17 +62,11 @@ module _ (bs : List ℕ) (h : Header) (r : Read bs h) where
   unfolding inBlock
   read-in-block b v = ap (λ (k : ℕ). leb (b * k + 1) v && leb v (b * k + k)) (read-block-size bs h r)
 
-and-swap : (a b : Bool) → (a && b) ≡ (b && a)
-and-swap true true = refl
-and-swap true false = refl
-and-swap false true = refl
-and-swap false false = refl
-
 -- a slot that is near and in state 0 is held and near
 pub near-held : (p : Picture) (v : ℕ) → 1 ≤ v → (slotOf p v .near && eqb (slotOf p v .state) 0) ≡ isNearHeld p v
 unfolding isNearHeld isHeld
 near-held p zero l = absurd (not-suc-le-zero l)
-near-held p (suc i) l = and-swap (slotOf p (suc i) .near) (eqb (slotOf p (suc i) .state) 0)
+near-held p (suc i) l = and-comm (slotOf p (suc i) .near) (eqb (slotOf p (suc i) .state) 0)
 
 -- ---- a near slot that a reload of a block adds
 

@@ -12,6 +12,7 @@ use lib.ListN.{length-map, List·getD-eq-default}
 use Rattle.lists.specs.Lists.{range, item}
 use Rattle.lists.proofs.Tests.{and-T, T-and}
 use Rattle.lists.proofs.Ranges.{length-range, getD-map-range}
+use Rattle.picture.proofs.Starts.{slot-past}
 use Rattle.picture.specs.Layout.{noState}
 use Rattle.picture.specs.Picture.{Picture, Slot, slotOf}
 use Rattle.network.specs.Words.{slotCount, inBlock}
@@ -83,16 +84,13 @@ module _ (a : Act) (p : Picture) (b : ℕ) where
   slot-acted i h = getD-map-range (slotAfter a p b) _ 1 (slotCount p) i h ∙ ap (slotAfter a p b) (one-add i)
 
 -- past the slots there is only the default, which is freed and not near
-slot-past : (p : Picture) (i : ℕ) → slotCount p ≤ i → slotOf p (suc i) ≡ record { state = 2; near = false }
-unfolding slotOf item slotCount
-slot-past p i h = List·getD-eq-default (p .slots) (record { state = 2; near = false }) {n = i} h
-
 pub state-past : (p : Picture) (i : ℕ) → slotCount p ≤ i → slotOf p (suc i) .state ≡ 2
+unfolding slotCount
 state-past p i h = ap (λ (s : Slot). s .state) (slot-past p i h)
 
 -- no act makes a slot near or not near
 pub near-acted : (a : Act) (p : Picture) (b v : ℕ) → slotOf (actOn a p b) v .near ≡ slotOf p v .near
-unfolding slotAfter
+unfolding slotAfter slotCount
 near-acted a p b zero = unfold slotOf item in refl
 near-acted a p b (suc i) = go (decLt i (slotCount p))
   where

@@ -22,7 +22,8 @@ use Rattle.acts.specs.Acts.{actFault, actBytes, doneBytes}
 use Rattle.acts.proofs.Acted.{acted-accepted}
 use Rattle.acts.proofs.Evicted.{evicted-served}
 use Rattle.acts.proofs.Judged.{done-bytes}
-use Rattle.acts.proofs.Choosable.{candidate-there, evict-candidate}
+use Rattle.acts.proofs.Choosable.{evict-candidate}
+use Rattle.network.proofs.Candidates.{candidate-below}
 use Rattle.network.proofs.Weights.{served-weight, loss-weight}
 use Rattle.demands.specs.Demands.{written, verdictIn, blockIn, lossIn, Lowers, AllCut, Proves, ThirdDemand}
 
@@ -55,7 +56,7 @@ module _ (bs : List ℕ) (ok : pictureFault bs ≡ 0) {b l : ℕ} (n : LeastAdmi
   unfolding servedWeight
   lowers-named =
       let p = pictureOf bs in
-      let there = candidate-there bs b ok (n .candidate) in
+      let there = candidate-below bs ok b (n .candidate) in
       let done = doneBytes Evict bs b in
       rw (done-bytes Evict bs b evicts-named)
       (record {

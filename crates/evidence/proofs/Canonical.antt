@@ -18,7 +18,7 @@ use Rattle.evidence.specs.Canonical.{choice, forestOf, evidenceOf}
 use Rattle.evidence.specs.Checks.{checkFault}
 use Rattle.evidence.proofs.Fields.{choice-fits, length-evidence}
 use Rattle.evidence.proofs.Held.{Reads, evidence-reads}
-use Rattle.evidence.proofs.Weighings.{candidate-below}
+use Rattle.network.proofs.Candidates.{candidate-below}
 use Rattle.evidence.proofs.Choosing.{choice-as-ruled}
 use Rattle.evidence.proofs.Judging.{right-served, right-numbers}
 use Rattle.evidence.proofs.Passing.{Section, Passes, passes-check}

@@ -24,7 +24,8 @@ use Rattle.evidence.specs.Canonical.{weighings}
 use Rattle.evidence.specs.Checks.{headIn, sectionIn, firstForest, forestRight, formRight, sectionFault, verdictRight, checkFault}
 use Rattle.evidence.specs.Rules.{sectionRules, evidenceRulesWith, checkRules}
 use Rattle.evidence.proofs.Forests.{right-kept, kept-right}
-use Rattle.evidence.proofs.Weighings.{weighings-length, weighing-at, candidate-below}
+use Rattle.network.proofs.Candidates.{candidate-below}
+use Rattle.evidence.proofs.Weighings.{weighings-length, weighing-at}
 use Rattle.evidence.proofs.Judging.{forestTest, numbersTest, test-numbers, numbers-test, right-form, form-right, right-served, served-right, right-numbers, numbers-right, right-verdict, verdict-right}
 
 -- ---- the sections

@@ -21,7 +21,7 @@ use Rattle.picture.specs.Layout.{edition1, fieldIn}
 use Rattle.picture.specs.Picture.{Picture, pictureOf}
 use Rattle.network.specs.Words.{slotCount, Candidate}
 use Rattle.network.specs.Tests.{candidates}
-use Rattle.network.proofs.Candidates.{candidates-all}
+use Rattle.network.proofs.Candidates.{candidate-below, candidates-all}
 use Rattle.evidence.specs.declared.Part.{Part}
 use Rattle.evidence.specs.Layout.{sectionWidths, sectionBytes, sectionAt, evidenceBytes}
 use Rattle.evidence.specs.Checks.{headIn, sectionIn, checkFault}
@@ -29,7 +29,6 @@ use Rattle.evidence.specs.Rules.{Verdict, chosen, none}
 use Rattle.evidence.specs.Calls.{shownPart, shown, SectionOf}
 use Rattle.evidence.proofs.Places.{section-bytes, section-at}
 use Rattle.evidence.proofs.Lengths.{sections-end}
-use Rattle.evidence.proofs.Weighings.{candidate-below}
 use Rattle.evidence.proofs.Passing.{Passes, check-passes}
 
 -- ---- a part of some bytes

@@ -3,9 +3,9 @@ use mathlib.Core.Path.{_≡_, sym, ap, ap₂, _∙_, subst, fun-ext}
 use mathlib.Core.Bool.{Bool, _&&_}
 use mathlib.Core.Logic.{⊎-elim}
 use mathlib.Core.List.{List}
-use Prim.Native.Nat.{ℕ, _+_, _*_, _≤_, _<_, zero-le}
+use Prim.Native.Nat.{ℕ, _+_, _*_, _/_, _%_, _≤_, _<_, zero-le}
 use native.Mathlib.Omega.{arith}
-use native.Mathlib.Nat.{zero-add}
+use native.Mathlib.Nat.{zero-add, div-add-mod', lt-of-mul-lt-mul-right}
 use borrow.Author.Tests.{le-leb}
 use lib.Dec.{T, leb, leb→le}
 use lib.ListN.{length, getD}
@@ -16,10 +16,13 @@ use Rattle.lists.proofs.Ranges.{any-range, range-any}
 use Rattle.lists.proofs.Filters.{filter-below}
 use Rattle.lists.proofs.Picks.{item-inside, Placed, filter-passes, range-leaves, filter-rises}
 use Rattle.rows.specs.Rows.{marked}
-use Rattle.picture.specs.Picture.{Slot, Picture, slotOf}
+use Rattle.picture.specs.Picture.{Slot, Picture, pictureOf, pictureWith, slotOf}
+use Rattle.picture.specs.Faults.{pictureFault}
+use Rattle.picture.proofs.Accepted.{accepted-kept}
 use Rattle.network.specs.Words.{slotCount, blockCount, inBlock, isHeld, Candidate}
 use Rattle.network.specs.Tests.{isNearHeld, isCandidate, candidates}
 use Rattle.network.specs.Rows.{SlotRowsOf, blockMarked, blocksMarked}
+use Rattle.network.proofs.Named.{slots-counted}
 
 -- ---- the test
 
@@ -63,6 +66,20 @@ module _ (p : Picture) where
   pub candidates-rise : (i j : ℕ) → i < j → j < length (candidates p) → getD (candidates p) i 0 < getD (candidates p) j 0
   unfolding candidates
   candidates-rise = filter-rises (isCandidate p) 0 (blockCount p)
+
+-- ---- every candidate of an accepted picture is one of its blocks
+
+-- a block that starts before the last slot is one of them, where the slots are whole blocks
+block-below : (n size b : ℕ) → n % size ≡ 0 → b * size < n → b < n / size
+block-below n size b m l = lt-of-mul-lt-mul-right size (omega (arith, div-add-mod' n size))
+
+pub candidate-below : (bs : List ℕ) → pictureFault bs ≡ 0 → (b : ℕ) → Candidate (pictureOf bs) b → b < blockCount (pictureOf bs)
+unfolding blockCount inBlock pictureOf pictureWith
+candidate-below bs z b c =
+    let p = pictureOf bs in
+    let v = c .slot in
+    let from = leb→le (b * p .blockSize + 1) v (and-T (leb (b * p .blockSize + 1) v) (leb v (b * p .blockSize + p .blockSize)) (c .inside) .0) in
+    block-below (slotCount p) (p .blockSize) b (ap (λ (k : ℕ). k % p .blockSize) (slots-counted bs) ∙ accepted-kept bs z .sizes .multiple) (omega (arith, near-slot p v (c .near)))
 
 -- ---- the candidates by the row of the held near slots
 

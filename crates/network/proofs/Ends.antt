@@ -9,7 +9,7 @@ use native.Mathlib.Decide.{decLe, decLt, ℕ-discrete}
 use lib.Dec.{T}
 use lib.ListN.{length, getD, set, replicate, length-set, length-replicate, getD-replicate, List·getD-eq-default}
 use lib.Seq.{getD-set-same, getD-set-other}
-use Rattle.lists.proofs.Picks.{item-inside}
+use Rattle.lists.proofs.Picks.{item-inside, zeros-at}
 use Rattle.picture.specs.Picture.{Endpoint, Picture, endpointOf}
 use Rattle.picture.specs.Layout.{endpointsMax}
 use Rattle.network.specs.Words.{weightOf}
@@ -24,14 +24,10 @@ pub record Weighing (w : ℕ → ℕ) (weights : List ℕ) (c : ℕ) : Type 0 wh
   pub origin : getD weights 0 0 ≡ 0
   pub unseen : (u : ℕ) → c ≤ u → getD weights u 0 ≡ 0
 
-zeros : (n u : ℕ) → getD {A = ℕ} (replicate n 0) u 0 ≡ 0
-zeros n u =
-    by-cases (decLt u n) (λ l. getD-replicate n u 0 0 l) (λ g. List·getD-eq-default (replicate n 0) 0 {n = u} (omega (arith, length-replicate {A = ℕ} n 0)))
-
 module _ (w : ℕ → ℕ) where
   pub weighing-begun : Weighing w (replicate (suc endpointsMax) 0) 1
   weighing-begun =
-      record { many = length-replicate {A = ℕ} (suc endpointsMax) 0; seen = λ u l m. absurd (omega arith); origin = zeros (suc endpointsMax) 0; unseen = λ u l. zeros (suc endpointsMax) u }
+      record { many = length-replicate {A = ℕ} (suc endpointsMax) 0; seen = λ u l m. absurd (omega arith); origin = zeros-at (suc endpointsMax) 0; unseen = λ u l. zeros-at (suc endpointsMax) u }
 
   pub weighing-next : (weights : List ℕ) (c x : ℕ) → 1 ≤ c → c ≤ endpointsMax → Weighing w weights c → x ≡ w c → Weighing w (set weights c x) (c + 1)
   weighing-next weights c x l m r e =

@@ -1,31 +1,24 @@
 -- Rows of marks as the loops make them, mark by mark. Assumes nothing.
 use mathlib.Core.Path.{_≡_, refl, sym, ap, ap₂, _∙_}
-use mathlib.Core.Bool.{Bool, true, false, _&&_, _||_, or-false}
+use mathlib.Core.Bool.{Bool, true, false, _&&_, _||_, and-true, and-false, or-false}
 use mathlib.Core.Logic.{by-cases}
 use mathlib.Core.List.{List, []}
 use Prim.Native.Nat.{ℕ, _+_, _*_, _≤_, _<_}
 use native.Mathlib.Omega.{arith}
 use native.Mathlib.Decide.{decLe, decLt, ℕ-discrete}
 use borrow.Author.Tests.{le-leb, lt-leb, lt-ltb, le-ltb, eq-eqb, ne-eqb}
-use lib.Dec.{T, leb, ltb, eqb}
+use lib.Dec.{leb, ltb, eqb}
 use lib.ListN.{length, getD, take, replicate, length-replicate, getD-replicate, List·getD-eq-default}
-use Rattle.lists.proofs.Tests.{is-false}
+use Rattle.lists.proofs.Tests.{eqb-comm}
 use Rattle.lists.proofs.Prefixes.{any-take-none, any-take-more, any-take-all}
 use Rattle.rows.specs.Rows.{marked, linkedIn, With, Linked, rowWords}
-use Rattle.rows.proofs.Marks.{none-marked}
+use Rattle.rows.proofs.Marks.{clear-row}
 use Rattle.picture.specs.declared.Link.{Link}
 use Rattle.picture.specs.Rules.{noLink}
 use Rattle.network.specs.Words.{joins}
 use Rattle.network.specs.Rows.{Clear, RowsOf}
 
--- a row of zeros marks nothing
-pub zeros-unmarked : (n v : ℕ) → ¬ T (marked (replicate n 0) v)
-zeros-unmarked n v = none-marked (replicate n 0) n (omega (arith, length-replicate {A = ℕ} n 0)) (λ j l. getD-replicate n j 0 0 l) v
-
-pub clear-row : (n v : ℕ) → marked (replicate n 0) v ≡ false
-clear-row n v = is-false (marked (replicate n 0) v) (zeros-unmarked n v)
-
--- and so does a table of such rows
+-- a table of rows of zeros marks nothing
 clear-table : (m n a b : ℕ) → linkedIn (replicate m (replicate n 0)) a b ≡ false
 unfolding linkedIn
 clear-table m n a b =
@@ -39,9 +32,6 @@ pub clear-made : (k : ℕ) → Clear k (replicate k (replicate rowWords 0))
 clear-made k = record { many = length-replicate k (replicate {A = ℕ} rowWords 0); none = clear-table k rowWords }
 
 -- ---- a table, mark by mark
-
-eqb-comm : (a b : ℕ) → eqb a b ≡ eqb b a
-eqb-comm a b = by-cases (ℕ-discrete a b) (λ e. eq-eqb a b e ∙ sym (eq-eqb b a (sym e))) (λ n. ne-eqb a b n ∙ sym (ne-eqb b a (λ e. n (sym e))))
 
 -- the link leads from x to y
 abbrev leads : ℕ → ℕ → Link → Bool
@@ -99,18 +89,10 @@ module _ (f : ℕ → Bool) where
           (λ g. rw (ne-eqb u v n, le-ltb u v (omega arith), le-ltb u (v + 1) (omega arith)) (or-false (leb 1 u && false))))
 
   pub scanned-hit : (row row′ : List ℕ) (v : ℕ) → 1 ≤ v → Scanned f row v → f v ≡ true → With row v row′ → Scanned f row′ (v + 1)
-  scanned-hit row row′ v h s e w = next-same row row′ v true h s e (λ u. w .marks u ∙ ap (λ (x : Bool). marked row u || x) (sym (and-right (eqb u v))))
-    where
-      and-right : (x : Bool) → (x && true) ≡ x
-      and-right true = refl
-      and-right false = refl
+  scanned-hit row row′ v h s e w = next-same row row′ v true h s e (λ u. w .marks u ∙ ap (λ (x : Bool). marked row u || x) (sym (and-true (eqb u v))))
 
   pub scanned-miss : (row : List ℕ) (v : ℕ) → 1 ≤ v → Scanned f row v → f v ≡ false → Scanned f row (v + 1)
-  scanned-miss row v h s e = next-same row row v false h s e (λ u. sym (ap (λ (x : Bool). marked row u || x) (and-none (eqb u v)) ∙ or-false (marked row u)))
-    where
-      and-none : (x : Bool) → (x && false) ≡ false
-      and-none true = refl
-      and-none false = refl
+  scanned-miss row v h s e = next-same row row v false h s e (λ u. sym (ap (λ (x : Bool). marked row u || x) (and-false (eqb u v)) ∙ or-false (marked row u)))
 
 -- ---- the row of a block
 

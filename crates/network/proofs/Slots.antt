@@ -15,6 +15,7 @@ use Rattle.lists.proofs.Tests.{T?, is-false, and-T}
 use Rattle.rows.specs.Rows.{marked, locationsMax}
 use Rattle.graph.specs.Held.{heldIn}
 use Rattle.picture.specs.Picture.{Slot, Picture, slotOf}
+use Rattle.picture.proofs.Starts.{slot-past}
 use Rattle.network.specs.Words.{slotCount, isHeld}
 use Rattle.network.specs.Tests.{isNearHeld}
 use Rattle.network.specs.Rows.{SlotRowsOf}
@@ -22,10 +23,6 @@ use Rattle.network.proofs.Candidates.{near-slot}
 use Rattle.network.proofs.Making.{Scanned}
 
 -- past the slots there is nothing: no slot is held there, and none is near
-slot-past : (p : Picture) (i : ℕ) → length (p .slots) ≤ i → slotOf p (suc i) ≡ record { state = 2; near = false }
-unfolding slotOf item
-slot-past p i h = List·getD-eq-default (p .slots) (record { state = 2; near = false }) {n = i} h
-
 pub held-within : (p : Picture) (v : ℕ) → 1 ≤ v → T (isHeld p v) → v ≤ length (p .slots)
 unfolding isHeld
 held-within p zero l t = absurd (not-suc-le-zero l)

@@ -1,7 +1,7 @@
 -- What the rows of a picture give: the walk over them reaches what chains reach, their common marks are service, and the sums over them
 -- are the weights of the specification. Assumes nothing.
 use mathlib.Core.Path.{_≡_, refl, sym, ap, ap₂, _∙_, subst, subst₂, fun-ext}
-use mathlib.Core.Bool.{Bool, true, false, not, _&&_, _||_}
+use mathlib.Core.Bool.{Bool, true, false, not, _&&_, _||_, and-true}
 use mathlib.Core.List.{List, [], map}
 use Prim.Native.Nat.{ℕ, zero, suc, _+_, _*_, _≤_}
 use native.Mathlib.Omega.{arith}
@@ -91,11 +91,7 @@ module _ (p : Picture) (weights guarded : List ℕ) (e : EndpointsOf p weights g
 
 -- with nothing left, what is lost is all that is served
 pub all-served : (p : Picture) (f : ℕ → Bool) → weightWhere p (λ c. f c && not false) ≡ weightWhere p f
-all-served p f = ap (weightWhere p) (fun-ext (λ c. whole (f c)))
-  where
-    whole : (x : Bool) → (x && not false) ≡ x
-    whole true = refl
-    whole false = refl
+all-served p f = ap (weightWhere p) (fun-ext (λ c. and-true (f c)))
 
 -- ---- what weighing gives
 

@@ -1,18 +1,10 @@
 -- `is_lost_protected` looks at the mark of a lost endpoint. Assumes nothing.
 use mathlib.Core.Path.{_≡_, refl, sym, ap, _∙_}
-use mathlib.Core.Bool.{Bool, true, false, _&&_}
+use mathlib.Core.Bool.{Bool, _&&_, and-true, and-false}
 use Rattle.rows.specs.Rows.{marked}
 use borrow.Author.Needs.{needs}
 use Rattle.weigh.proofs.is_lost_protected.Statement.{statement}
 use Rattle.weigh.proofs.is_lost_protected.Tie as tie
-
-and-true : (b : Bool) → (b && true) ≡ b
-and-true true = refl
-and-true false = refl
-
-and-false : (b : Bool) → (b && false) ≡ false
-and-false true = refl
-and-false false = refl
 
 has-requires : tie.Need-has-requires
 has-requires c κs = search needs

@@ -8,7 +8,8 @@ use Rattle.network.specs.Words.{isHeld, heldWithout, joins}
 use Rattle.network.specs.Rows.{BlockRow}
 use Rattle.network.proofs.Named.{accepted-named}
 use Rattle.network.proofs.Blocks.{read-block-size, read-endpoints, read-block}
-use Rattle.network.proofs.Making.{zeros-unmarked, clear-made}
+use Rattle.network.proofs.Making.{clear-made}
+use Rattle.rows.proofs.Marks.{clear}
 use Rattle.weigh.specs.Weighing.{weightsOf}
 use Rattle.weigh.proofs.Serving.{walked-over, left-slots, left-held, sums-ready, served-value, loss-value, mark-value}
 use borrow.Author.Needs.{needs}
@@ -90,7 +91,7 @@ returns c =
     let count = read-endpoints _ _ read in
     let all = c .before .before .before .lost-between .ensures in
     let lost = c .lost-between2 .ensures in
-    let w = served-value (shown k) _ _ _ _ named services ends count _ _ _ (now-walked k) _ _ _ (zeros-unmarked rowWords) all in
+    let w = served-value (shown k) _ _ _ _ named services ends count _ _ _ (now-walked k) _ _ _ (clear rowWords) all in
     let l = loss-value (shown k) _ _ _ _ named services ends count _ _ _ (now-walked k) (evicted k) _ _ _ (left-walked k) _ _ lost in
     let m = mark-value (shown k) _ _ _ _ named services ends count _ _ _ (now-walked k) (evicted k) _ _ _ (left-walked k) _ _ lost in
     λ i. record { served = w i; loss = l i; mark = m i }
