@@ -4,14 +4,14 @@ use mathlib.Core.Bool.{Bool, not}
 use Prim.Native.Nat.{ℕ, _+_}
 use lib.Dec.{T}
 use Rattle.lists.proofs.Tests.{and-T}
-use Rattle.lists.proofs.Picks.{sum-split}
 use Rattle.graph.specs.Chains.{Chain}
 use Rattle.graph.specs.Chains.Chain.{origin, step}
 use Rattle.picture.specs.Picture.{Picture}
-use Rattle.network.specs.Words.{endpointCount, inBlock, isHeld, heldWithout, weightOf, Served}
+use Rattle.network.specs.Words.{inBlock, isHeld, heldWithout, Served}
 use Rattle.network.specs.Tests.{marks, served, cut, weightWhere, servedWeight, weighed}
 use Rattle.network.proofs.Named.{Named}
 use Rattle.network.proofs.Service.{marked-served, served-marked}
+use Rattle.network.proofs.Weights.{where-split}
 
 -- ---- what fewer held locations serve, more do
 
@@ -37,8 +37,7 @@ without-held p b v t = and-T (isHeld p v) (not (inBlock p b v)) t .0
 
 -- so what is served now is what is served without the block, and what the block cuts
 pub loss-off : {p : Picture} → Named p → (b : ℕ) → weightWhere p (served p (marks p (heldWithout p b))) + weighed p b .loss ≡ servedWeight p
-unfolding servedWeight weighed weightWhere cut
+unfolding servedWeight weighed cut
 loss-off {p} n b =
-    sum-split (weightOf p) (served p (marks p (isHeld p))) (served p (marks p (heldWithout p b)))
+    where-split p (served p (marks p (isHeld p))) (served p (marks p (heldWithout p b)))
     (λ c t. served-marked n (served-more (without-held p b) (marked-served p (heldWithout p b) c t)))
-    1 (endpointCount p)

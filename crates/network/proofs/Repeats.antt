@@ -7,7 +7,7 @@ use Prim.Native.Nat.{ℕ, zero, suc, _+_, _*_, _/_, _≤_}
 use lib.Dec.{T, leb, eqb}
 use lib.ListN.{length, getD}
 use Rattle.lists.specs.Lists.{range, on, sum, any, filter, item}
-use Rattle.lists.specs.Totals.{Total, none, with, without}
+use Rattle.lists.specs.Totals.{Total}
 use Rattle.lists.proofs.Tests.{at-any}
 use Rattle.graph.specs.Chains.{Reached}
 use Rattle.graph.specs.Rounds.{reachedIn}
@@ -18,6 +18,7 @@ use Rattle.network.specs.Words.{slotCount, endpointCount, blockCount, in
 use Rattle.network.specs.Tests.{marks, served, cut, weightWhere, servedWeight, weighed, isNearHeld, isCandidate, candidates}
 use Rattle.network.specs.Repeats.{Repeats, same, again, Repeated}
 use Rattle.network.proofs.Named.{joins-at}
+use Rattle.network.proofs.Weights.{total-same}
 
 -- ---- a test of any link tells no copy from the first
 
@@ -90,14 +91,8 @@ module _ {p q : Picture} {b : ℕ} where
         near = subst (λ (f : ℕ → Slot). T (f (k .slot) .near)) s (k .near);
       }
 
-module _ {P Q : ℕ → Type 0} {w : ℕ → ℕ} (e : (c : ℕ) → P c ↔ Q c) where
-  total-on : {i k s : ℕ} → Total P w i k s → Total Q w i k s
-  total-on none = none
-  total-on (with {i = i} x t) = with (e i .0 x) (total-on t)
-  total-on (without {i = i} n t) = without (λ x. n (e i .1 x)) (total-on t)
-
 weight-on : {P Q : ℕ → Type 0} {w w′ : ℕ → ℕ} {k k′ s : ℕ} → w ≡ w′ → k ≡ k′ → ((c : ℕ) → P c ↔ Q c) → Total P w 1 k s → Total Q w′ 1 k′ s
-weight-on {Q = Q} {s = s} w k e t = subst₂ (λ (f : ℕ → ℕ) (n : ℕ). Total Q f 1 n s) w k (total-on e t)
+weight-on {Q = Q} {s = s} w k e t = subst₂ (λ (f : ℕ → ℕ) (n : ℕ). Total Q f 1 n s) w k (total-same e t)
 
 -- ---- two pictures that differ in repeats alone
 

@@ -1,16 +1,18 @@
 -- Served weight, loss and mark are what the chains say, and weights are small numbers. Assumes nothing.
 use mathlib.Core.Path.{_≡_, refl, sym, subst}
-use mathlib.Core.Bool.{Bool, _&&_}
-use mathlib.Core.Logic.{⊎-elim}
+use mathlib.Core.Bool.{Bool, not, _&&_}
+use mathlib.Core.Logic.{_↔_, ⊎-elim}
 use mathlib.Core.List.{List}
-use Prim.Native.Nat.{ℕ, _^_, _≤_, _<_, zero-le}
+use Prim.Native.Nat.{ℕ, _+_, _^_, _≤_, _<_, zero-le}
 use native.Mathlib.Omega.{arith}
+use lib.Dec.{T}
 use Rattle.lists.specs.Lists.{range, on, any}
+use Rattle.lists.specs.Totals.{Total, none, with, without}
 use Rattle.lists.proofs.Tests.{and-T, T-and}
 use Rattle.lists.proofs.Ranges.{any-range, range-any}
 use Rattle.lists.proofs.Faults.{on-true, on-pass, on-le}
 use Rattle.lists.proofs.Sums.{total, sum-le}
-use Rattle.lists.proofs.Picks.{item-inside}
+use Rattle.lists.proofs.Picks.{item-inside, sum-split}
 use Rattle.bits.proofs.Reading.{fieldAt-lt}
 use Rattle.picture.specs.Layout.{editionOf, endpointWidths}
 use Rattle.picture.specs.Picture.{Picture, Endpoint, headerOf, pictureOf, endpointAt, endpointOf}
@@ -51,6 +53,18 @@ module _ {p : Picture} (n : Named p) where
       let c = k .endpoint in
       let t = T-and (endpointOf p c .protected) (cut p (marks p (isHeld p)) (marks p (heldWithout p b)) c) (k .protected) (cuts-cut n (k .cut)) in
       on-pass (any (hurts p b) (range 1 (endpointCount p))) 1 (range-any (hurts p b) 1 (endpointCount p) (record { number = c; from = k .some; below = omega (arith, k .most); passes = t }))
+
+-- the sum over what one test picks of what another does, and the rest
+pub where-split : (p : Picture) (f g : ℕ → Bool) → ((c : ℕ) → T (g c) → T (f c)) → weightWhere p g + weightWhere p (λ c. f c && not (g c)) ≡ weightWhere p f
+unfolding weightWhere
+where-split p f g m = sum-split (weightOf p) f g m 1 (endpointCount p)
+
+-- a sum over the places at which P holds is one over those at which Q does, where these are the same
+module _ {P Q : ℕ → Type 0} {w : ℕ → ℕ} (e : (c : ℕ) → P c ↔ Q c) where
+  pub total-same : {i k s : ℕ} → Total P w i k s → Total Q w i k s
+  total-same none = none
+  total-same (with {i = i} x t) = with (e i .0 x) (total-same t)
+  total-same (without {i = i} n t) = without (λ x. n (e i .1 x)) (total-same t)
 
 module _ (p : Picture) (b : ℕ) where
   pub mark-le : weighed p b .mark ≤ 1

@@ -145,8 +145,10 @@ pub fn endpoint_rows(s: &[u8], h: Header, weights: &mut [u32; ENDPOINTS]) -> [u6
     let mut protected = [0u64; WORDS];
     let mut c: usize = 1;
     while c <= d {
-        weights[c] = picture::endpoint_weight(s, h, c) as u32;
-        if picture::endpoint_protected(s, h, c) {
+        let weight = picture::endpoint_weight(s, h, c);
+        let guarded = picture::endpoint_protected(s, h, c);
+        weights[c] = weight as u32;
+        if guarded {
             rows::add(&mut protected, c);
         }
         c += 1;

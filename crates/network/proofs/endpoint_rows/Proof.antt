@@ -65,17 +65,17 @@ loop-holds c =
 endpoint-weight-requires : tie.Need-endpoint-weight-requires Inv-loop μ-loop
 endpoint-weight-requires c κs = (read-limited _ _ (c .before .loop .inv .read), c .before .loop .inv .some, omega arith)
 
-cast-weights : tie.Need-cast-weights Inv-loop μ-loop
-cast-weights c = omega (arith, weight c, weight-small (c .before .before .before .before .args .s .now) (c .before .before .loop .c))
-
-mul-weights : tie.Need-mul-weights Inv-loop μ-loop
-mul-weights c = omega (arith, few (c .before .before))
-
-element-write-weights : tie.Need-element-write-weights Inv-loop μ-loop
-element-write-weights c = omega (arith, few (c .before .before))
-
 endpoint-protected-requires : tie.Need-endpoint-protected-requires Inv-loop μ-loop
 endpoint-protected-requires c κs = (read-limited _ _ (c .before .before .loop .inv .read), c .before .before .loop .inv .some, omega arith)
+
+cast-weights : tie.Need-cast-weights Inv-loop μ-loop
+cast-weights c = omega (arith, weight (c .before), weight-small (c .before .before .before .before .before .args .s .now) (c .before .before .before .loop .c))
+
+mul-weights : tie.Need-mul-weights Inv-loop μ-loop
+mul-weights c = omega (arith, few (c .before .before .before))
+
+element-write-weights : tie.Need-element-write-weights Inv-loop μ-loop
+element-write-weights c = omega (arith, few (c .before .before .before))
 
 add-requires : tie.Need-add-requires Inv-loop μ-loop
 add-requires c κs = omega (arith, few (c .before .before .before .before .before))
@@ -110,10 +110,10 @@ endpoint-rows-spec =
     μ-loop
     loop-holds
     endpoint-weight-requires
+    endpoint-protected-requires
     cast-weights
     mul-weights
     element-write-weights
-    endpoint-protected-requires
     add-requires
     add-c
     loop-less
