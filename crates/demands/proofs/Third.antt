@@ -1,31 +1,72 @@
 -- The third demand is met. Assumes nothing.
-use mathlib.Core.Path.{_≡_, refl}
+use mathlib.Core.Path.{_≡_, refl, sym, ap, _∙_}
 use mathlib.Core.Logic.{_≢_}
-use mathlib.Core.List.{List}
-use Prim.Native.Nat.{ℕ, _≤_}
+use mathlib.Core.List.{List, [], _∷_}
+use Prim.Native.Nat.{ℕ, zero, suc, _≤_}
 use native.Mathlib.Omega.{arith}
+use lib.ListN.{getD}
+use Rattle.lists.specs.Lists.{outcome}
 use Rattle.lists.proofs.Sums.{total-one}
 use Rattle.picture.specs.Picture.{Picture, pictureOf}
 use Rattle.picture.specs.Faults.{pictureFault}
-use Rattle.network.specs.Words.{isHeld}
+use Rattle.network.specs.Words.{isHeld, Loss, Candidate, Admissible}
 use Rattle.network.specs.Tests.{servedWeight}
-use Rattle.network.proofs.LeastAdmissible.{accepted-named}
-use Rattle.evidence.specs.Canonical.{evidenceOf}
-use Rattle.evidence.specs.Calls.{chooseFault}
+use Rattle.network.proofs.Candidates.{candidate-below}
+use Rattle.network.proofs.Named.{accepted-named}
+use Rattle.network.proofs.Weights.{served-weight, loss-weight}
+use Rattle.evidence.specs.Canonical.{choice, evidenceOf}
+use Rattle.evidence.specs.Checks.{checkFault}
+use Rattle.evidence.specs.Calls.{lengthFor, chooseFault}
 use Rattle.evidence.specs.Rules.{LeastAdmissible, Verdict, chosen, none}
+use Rattle.evidence.proofs.Choosing.{choice-lowest}
+use Rattle.evidence.proofs.Held.{evidence-reads}
 use Rattle.evidence.proofs.Lengths.{choose-takes, chosen-evidence}
-use Rattle.evidence.proofs.Passing.{check-passes}
-use Rattle.evidence.proofs.Canonical.{canonical-passes}
+use Rattle.evidence.proofs.Passing.{check-passes, passes-check}
+use Rattle.evidence.proofs.Canonical.{own-passes}
 use Rattle.evidence.proofs.Unique.{same-verdict}
+use Rattle.choose.specs.Answers.{choosing}
+use Rattle.choose.proofs.Answering.{choosing-numbers}
+use Rattle.checker.specs.declared.Checking.the-variants.{Passed, Refused as Unpassed}
+use Rattle.checker.specs.Answers.{checkingOf, checking, checkingNumbers}
+use Rattle.checker.proofs.Answering.{checking-numbers}
 use Rattle.acts.specs.declared.Act.the-variants.{Evict}
-use Rattle.acts.specs.Acts.{actFault, actBytes, doneBytes}
+use Rattle.acts.specs.declared.Acting.the-variants.{Done, Refused as Undone}
+use Rattle.acts.specs.Acts.{actFault, actBytes, doneBytes, actingOf, acting}
 use Rattle.acts.proofs.Acted.{acted-accepted}
+use Rattle.acts.proofs.Answering.{acting-numbers}
 use Rattle.acts.proofs.Evicted.{evicted-served}
 use Rattle.acts.proofs.Judged.{done-bytes}
 use Rattle.acts.proofs.Choosable.{evict-candidate}
-use Rattle.network.proofs.Candidates.{candidate-below}
-use Rattle.network.proofs.Weights.{served-weight, loss-weight}
-use Rattle.demands.specs.Demands.{written, verdictIn, blockIn, lossIn, Lowers, AllCut, Proves, ThirdDemand}
+use Rattle.demands.specs.Demands.{Chooses, Checks, Evicts, written, verdictIn, blockIn, lossIn, Lowers, AllCut, Proves, ThirdDemand}
+
+-- ---- what the calls answer where there is no fault
+
+chooses : (bs buf : List ℕ) → chooseFault bs buf ≡ 0 → Chooses bs buf
+unfolding outcome
+chooses bs buf z = choosing-numbers bs buf ∙ ap (λ (k : ℕ). outcome k (lengthFor bs ∷ [])) z
+
+checks : (bs ev : List ℕ) → checkFault bs ev ≡ 0 → Checks bs ev
+unfolding outcome checking checkingOf
+checks bs ev z = record { number = checking-numbers bs ev ∙ ap (λ (k : ℕ). outcome k []) z; unrefused = λ k e. never k (sym (ap checkingOf z) ∙ e) }
+  where
+    never : (k : ℕ) → Passed ≢ Unpassed k
+    never k q = let z : _≡_ {A = ℕ} 0 1 = cc in omega arith
+
+-- an answer of 0 is of evidence without a fault
+checked : (bs ev : List ℕ) → checkingNumbers (checking bs ev) ≡ 0 ∷ [] → checkFault bs ev ≡ 0
+unfolding outcome
+checked bs ev e = none-told (checkFault bs ev) (sym (checking-numbers bs ev) ∙ e)
+  where
+    none-told : (k : ℕ) → outcome k [] ≡ 0 ∷ [] → k ≡ 0
+    none-told zero q = refl
+    none-told (suc k) q = ap (λ (l : List ℕ). getD l 0 0) q
+
+evicts : (bs : List ℕ) (b : ℕ) → actFault Evict bs b ≡ 0 → Evicts bs b
+unfolding outcome acting actingOf
+evicts bs b z = record { number = acting-numbers Evict bs b ∙ ap (λ (k : ℕ). outcome k []) z; unrefused = λ k e. never k (sym (ap actingOf z) ∙ e) }
+  where
+    never : (k : ℕ) → Done ≢ Undone k
+    never k q = let z : _≡_ {A = ℕ} 0 1 = cc in omega arith
 
 -- ---- what a right verdict says
 
@@ -45,63 +86,45 @@ verdict-named : {p : Picture} {v b l : ℕ} → Verdict p v b l → v ≢ 0 → 
 verdict-named (chosen n) _ = n
 verdict-named (none k) m = absurd (m refl)
 
--- ---- evicting what is named
+-- ---- what is named
 
-module _ (bs : List ℕ) (ok : pictureFault bs ≡ 0) {b l : ℕ} (n : LeastAdmissible (pictureOf bs) b l) where
-  evicts-named : actFault Evict bs b ≡ 0
-  evicts-named = evict-candidate bs b ok (n .candidate) (n .admissible)
+module _ (bs : List ℕ) (ok : pictureFault bs ≡ 0) where
+  -- it is the lowest of those that lose as much
+  lowest-named : verdictIn (evidenceOf bs) ≢ 0 → (b : ℕ) → Candidate (pictureOf bs) b → Admissible (pictureOf bs) b → Loss (pictureOf bs) b (lossIn (evidenceOf bs)) → blockIn (evidenceOf bs) ≤ b
+  unfolding choice
+  lowest-named v b c a l =
+      let r = evidence-reads bs ok in
+      rw (r .block) (choice-lowest (accepted-named bs ok) (candidate-below bs ok) (λ z. v (r .verdict ∙ z)) b c a (rw (r .loss) at l))
 
-  -- the served weight before is that after with the loss added
-  lowers-named : Lowers (pictureOf bs) (pictureOf (actBytes Evict bs b)) l
-  unfolding servedWeight
-  lowers-named =
-      let p = pictureOf bs in
-      let there = candidate-below bs ok b (n .candidate) in
-      let done = doneBytes Evict bs b in
-      rw (done-bytes Evict bs b evicts-named)
-      (record {
-        weight = servedWeight (pictureOf done);
-        afterwards = served-weight (accepted-named done (acted-accepted Evict bs b ok there)) (isHeld (pictureOf done));
-        earlier =
-            rw (total-one (n .stated) (loss-weight (accepted-named bs ok) b), evicted-served bs b ok there)
-            (served-weight (accepted-named bs ok) (isHeld p));
-      })
+  module _ {b l : ℕ} (n : LeastAdmissible (pictureOf bs) b l) where
+    evicts-named : actFault Evict bs b ≡ 0
+    evicts-named = evict-candidate bs b ok (n .candidate) (n .admissible)
 
--- ---- what the calls answer
+    -- evicting it leaves an accepted picture
+    accepted-after : pictureFault (actBytes Evict bs b) ≡ 0
+    accepted-after = rw (done-bytes Evict bs b evicts-named) (acted-accepted Evict bs b ok (candidate-below bs ok b (n .candidate)))
 
-chooses : (bs buf : List ℕ) → chooseFault bs buf ≡ 0 → Chooses bs buf
-unfolding outcome
-chooses bs buf z = choosing-numbers bs buf ∙ ap (λ (k : ℕ). outcome k (lengthFor bs ∷ [])) z
+    -- the served weight before is that after with the loss added
+    lowers-named : Lowers (pictureOf bs) (pictureOf (actBytes Evict bs b)) l
+    unfolding servedWeight
+    lowers-named =
+        let p = pictureOf bs in
+        let there = candidate-below bs ok b (n .candidate) in
+        let done = doneBytes Evict bs b in
+        rw (done-bytes Evict bs b evicts-named)
+        (record {
+          weight = servedWeight (pictureOf done);
+          afterwards = served-weight (accepted-named done (acted-accepted Evict bs b ok there)) (isHeld (pictureOf done));
+          earlier =
+              rw (total-one (n .stated) (loss-weight (accepted-named bs ok) b), evicted-served bs b ok there)
+              (served-weight (accepted-named bs ok) (isHeld p));
+        })
 
-checks : (bs ev : List ℕ) → checkFault bs ev ≡ 0 → Checks bs ev
-unfolding outcome checking checkingOf
-checks bs ev z = record { number = checking-numbers bs ev ∙ ap (λ (k : ℕ). outcome k []) z; unrefused = λ k e. absurd (never k (ap checkingOf (sym z) ∙ e)) }
-  where
-    never : (k : ℕ) → Passed ≡ Unpassed k → ⊥
-    never k q = let z : _≡_ {A = ℕ} 0 1 = cc in omega arith
-
--- an answer of 0 is of evidence without a fault
-checked : (bs ev : List ℕ) → checkingNumbers (checking bs ev) ≡ 0 ∷ [] → checkFault bs ev ≡ 0
-checked bs ev e = outcome-zero (checkFault bs ev) (sym (checking-numbers bs ev) ∙ e)
-  where
-    outcome-zero : (k : ℕ) → outcome k [] ≡ 0 ∷ [] → k ≡ 0
-    outcome-zero zero e = refl
-    outcome-zero (suc k) e = unfold outcome in ap (λ (l : List ℕ). getD l 0 0) e
-
-evicts : (bs : List ℕ) (b : ℕ) → actFault Evict bs b ≡ 0 → Evicts bs b
-unfolding outcome acting actingOf
-evicts bs b z = record { number = acting-numbers Evict bs b ∙ ap (λ (k : ℕ). outcome k []) z; unrefused = λ k e. absurd (never k (ap actingOf (sym z) ∙ e)) }
-  where
-    never : (k : ℕ) → Done ≡ Undone k → ⊥
-    never k q = let z : _≡_ {A = ℕ} 0 1 = cc in omega arith
-
--- ---- what choose writes
+-- ---- all of it
 
 written-fixed : (bs buf : List ℕ) → chooseFault bs buf ≡ 0 → written bs buf ≡ evidenceOf bs
 unfolding written
 written-fixed bs buf z = chosen-evidence bs buf z
-
--- ---- all of it
 
 fixed-proves : (bs : List ℕ) → pictureFault bs ≡ 0 → Proves bs (evidenceOf bs)
 fixed-proves bs ok =
@@ -121,11 +144,11 @@ fixed-proves bs ok =
             least = n .least;
             lowest = lowest-named bs ok m;
             evicts = evicts bs _ (evicts-named bs ok n);
-            accepted = accepted-named-after bs ok n;
+            accepted = accepted-after bs ok n;
             lowers = lowers-named bs ok n;
           };
       fixed = refl;
-      passes = checks bs ev (canonical-passes bs ok);
+      passes = checks bs ev (passes-check bs ev passing);
       verdicts = λ other z. same-verdict (check-passes bs other (checked bs other z)) passing .0;
       losses = λ other z. same-verdict (check-passes bs other (checked bs other z)) passing .1;
     }
