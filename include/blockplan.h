@@ -5,6 +5,8 @@
  * each call ends, reads and writes inside its buffers only, and gives the answer that the scope document ("01" below) fixes. Link with
  * libblockplan_c.a (x86-64, System V calls), which `rt staticlib blockplan_c` makes; besides the five calls it names only memcpy and memset.
  *
+ * docs/FORMAT.md has formats, words and numbers in full, with an example byte by byte.
+ *
  * WORDS. Location 0 is the origin (01: the office); locations 1 to n are slots, in blocks of so many slots each, counted from 0. Links lead from
  * location to location, service links (01: serving links) from a location to an endpoint (01: a cab). A slot is held, recoverable or freed; near
  * slots lie in the small fast store. A chain leads from the origin over links through held slots; an endpoint is served if a chain ends at a location
