@@ -93,7 +93,8 @@ module _ {p : Picture} {holding near : List ℕ} (s : SlotRowsOf p holding near)
           let x = any-range (marked near) (b * p .blockSize + 1) (p .blockSize) t in
           let v = x .number in
           let h = and-T (isHeld p v) (slotOf p v .near) (subst T (s .near v) (x .passes)) in
-          let inside : T (inBlock p b v) = rw (le-leb (b * p .blockSize + 1) v (x .from), le-leb v (b * p .blockSize + p .blockSize) (omega (arith, x .below))) tt in
+          let last : v ≤ b * p .blockSize + p .blockSize = omega (arith, x .below) in
+          let inside : T (inBlock p b v) = rw (le-leb (b * p .blockSize + 1) v (x .from), le-leb v (b * p .blockSize + p .blockSize) last) tt in
           test-candidate (record { slot = v; inside = inside; held = h .0; near = h .1 })
 
       back : T (isCandidate p b) → T (blockMarked near (p .blockSize) b)

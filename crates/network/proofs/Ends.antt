@@ -27,7 +27,12 @@ pub record Weighing (w : ℕ → ℕ) (weights : List ℕ) (c : ℕ) : Type 0 wh
 module _ (w : ℕ → ℕ) where
   pub weighing-begun : Weighing w (replicate (suc endpointsMax) 0) 1
   weighing-begun =
-      record { many = length-replicate {A = ℕ} (suc endpointsMax) 0; seen = λ u l m. absurd (omega arith); origin = zeros-at (suc endpointsMax) 0; unseen = λ u l. zeros-at (suc endpointsMax) u }
+      record {
+        many = length-replicate {A = ℕ} (suc endpointsMax) 0;
+        seen = λ u l m. absurd (omega arith);
+        origin = zeros-at (suc endpointsMax) 0;
+        unseen = λ u l. zeros-at (suc endpointsMax) u;
+      }
 
   pub weighing-next : (weights : List ℕ) (c x : ℕ) → 1 ≤ c → c ≤ endpointsMax → Weighing w weights c → x ≡ w c → Weighing w (set weights c x) (c + 1)
   weighing-next weights c x l m r e =
@@ -48,8 +53,8 @@ pub endpoint-inside : (p : Picture) (c : ℕ) → ¬ ((1 ≤ c) × (c ≤ length
 unfolding endpointOf
 endpoint-inside p c n = ⊎-elim (λ i. absurd (n i)) (λ e. e) (item-inside (p .endpoints) c (record { weight = 0; protected = false }))
 
-pub endpoints-looked : (p : Picture) (weights guarded : List ℕ) (c : ℕ) → length (p .endpoints) < c → c ≤ length (p .endpoints) + 1 → Weighing (weightOf p) weights c → Scanned (λ u. endpointOf p u .protected) guarded c
-    → EndpointsOf p weights guarded
+pub endpoints-looked : (p : Picture) (weights guarded : List ℕ) (c : ℕ) → length (p .endpoints) < c → c ≤ length (p .endpoints) + 1
+    → Weighing (weightOf p) weights c → Scanned (λ u. endpointOf p u .protected) guarded c → EndpointsOf p weights guarded
 unfolding weightOf
 endpoints-looked p weights guarded c l m w s =
     record { many = w .many; weight = weight; protected = scanned-all (λ u. endpointOf p u .protected) guarded c s there }

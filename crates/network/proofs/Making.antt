@@ -47,8 +47,8 @@ module _ (k : ℕ) (ls : List Link) where
   linking-begun table c = record { many = c .many; same = λ x y. c .none x y ∙ sym (any-take-none noLink (leads x y) ls) }
 
   -- a link that is marked a second time counts once: its mark is there already
-  pub linking-next : (table table′ : List (List ℕ)) (i : ℕ) (l : Link) → Linking k ls table i → i < length ls → l ≡ getD ls i noLink → Linked table (l .from) (l .to) table′
-      → Linking k ls table′ (i + 1)
+  pub linking-next : (table table′ : List (List ℕ)) (i : ℕ) (l : Link) → Linking k ls table i → i < length ls → l ≡ getD ls i noLink
+      → Linked table (l .from) (l .to) table′ → Linking k ls table′ (i + 1)
   unfolding joins
   linking-next table table′ i l r h e m =
       record { many = m .many ∙ r .many; same = λ x y. m .links x y ∙ ap₂ _||_ (r .same x y) (here x y) ∙ sym (any-take-more noLink (leads x y) ls i h) }

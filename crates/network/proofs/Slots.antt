@@ -45,7 +45,8 @@ scanned-all f row v s h u = s .same u ∙ by-cases (T? (f u)) yes-there no-there
     no-there n = ap (λ (x : Bool). leb 1 u && (ltb u v && x)) (is-false (f u) n) ∙ false-last (leb 1 u) (ltb u v) ∙ sym (is-false (f u) n)
 
 -- every slot was looked at
-pub slots-looked : (p : Picture) (holding nearby : List ℕ) (v : ℕ) → length (p .slots) < v → v ≤ locationsMax → Scanned (isHeld p) holding v → Scanned (isNearHeld p) nearby v → SlotRowsOf p holding nearby
+pub slots-looked : (p : Picture) (holding nearby : List ℕ) (v : ℕ) → length (p .slots) < v → v ≤ locationsMax → Scanned (isHeld p) holding v
+    → Scanned (isNearHeld p) nearby v → SlotRowsOf p holding nearby
 unfolding heldIn isHeld isNearHeld slotCount
 slots-looked p holding nearby v l m s r =
     record {

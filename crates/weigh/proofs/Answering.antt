@@ -33,7 +33,9 @@ module _ (bs : List ℕ) (b : ℕ) where
   -- there is no such block
   pub weigh-no-block : pictureFault bs ≡ 0 → blockCount (pictureOf bs) ≤ b → Refused 8 ≡ weighing bs b
   unfolding weighFault blockFault on
-  weigh-no-block z l = refused 8 (λ e. absurd (omega arith)) (skip-at {x = 0} _ refl (sym z) (stop-at {x = 8} _ (λ e. absurd (omega arith)) (rw (le-leb (blockCount (pictureOf bs)) b l))))
+  weigh-no-block z l =
+      let no : _≢_ {A = ℕ} 8 0 = λ e. absurd (omega arith) in
+      refused 8 no (skip-at {x = 0} _ refl (sym z) (stop-at {x = 8} _ no (rw (le-leb (blockCount (pictureOf bs)) b l))))
 
   -- nothing is wrong
   pub weigh-told : pictureFault bs ≡ 0 → b < blockCount (pictureOf bs) → Weighed (weightsOf (pictureOf bs) b) ≡ weighing bs b

@@ -29,13 +29,15 @@ use Rattle.weigh.specs.Sums.{Small, Meets, LostBetween, weightBetween, m
 -- ---- the walk
 
 -- a walk over rows that say what the picture says is a walk over the picture
-pub walked-over : (p : Picture) (held : ℕ → Bool) (table : List (List ℕ)) (row : List ℕ) (reaches : ℕ → Bool) (parent depth : List ℕ) → RowsOf locationsMax (joins (p .links)) table → ((v : ℕ) → heldIn row v ≡ held v)
+pub walked-over : (p : Picture) (held : ℕ → Bool) (table : List (List ℕ)) (row : List ℕ) (reaches : ℕ → Bool) (parent depth : List ℕ)
+    → RowsOf locationsMax (joins (p .links)) table → ((v : ℕ) → heldIn row v ≡ held v)
     → Walked (linkedIn table) (heldIn row) reaches parent depth → Walked (joins (p .links)) held reaches parent depth
 walked-over p held table row reaches parent depth t h w =
     subst₂ (λ (l : ℕ → ℕ → Bool) (k : ℕ → Bool). Walked l k reaches parent depth) (fun-ext (λ a. fun-ext (λ b. t .same a b))) (fun-ext h) w
 
 -- the held slots less those of a block
-module _ (p : Picture) (b : ℕ) (holding nearby block left : List ℕ) (s : SlotRowsOf p holding nearby) (k : BlockRow (p .blockSize) b block) (m : Minus holding block left) where
+module _ (p : Picture) (b : ℕ) (holding nearby block left : List ℕ) (s : SlotRowsOf p holding nearby) (k : BlockRow (p .blockSize) b block)
+    (m : Minus holding block left) where
   pub left-slots : SlotsOnly left
   left-slots = record { above = λ v t. s .slots .above v (was v t); within = λ v t. s .slots .within v (was v t) }
     where
@@ -52,7 +54,8 @@ module _ (p : Picture) (b : ℕ) (holding nearby block left : List ℕ) (s : Slo
 -- ---- service
 
 -- an endpoint is served exactly where its row has a mark in common with the row of what is reached
-pub serving : (p : Picture) (held : ℕ → Bool) (table : List (List ℕ)) (row parent depth : List ℕ) → Named p → RowsOf (suc endpointsMax) (λ c a. joins (p .serviceLinks) a c) table
+pub serving : (p : Picture) (held : ℕ → Bool) (table : List (List ℕ)) (row parent depth : List ℕ) → Named p
+    → RowsOf (suc endpointsMax) (λ c a. joins (p .serviceLinks) a c) table
     → Walked (joins (p .links)) held (marked row) parent depth → Meets table row (served p (marks p held))
 unfolding linkedIn
 serving p held table row parent depth n t w = record { meet = meet }
@@ -60,7 +63,10 @@ serving p held table row parent depth n t w = record { meet = meet }
     meet : (c : ℕ) → Meet (getD table c []) row (served p (marks p held) c)
     meet c =
         record {
-          common = λ s. let r = marked-served p held c s in (r .location, subst T (sym (t .same c (r .location))) (r .serves), w .reached-marks (r .location) (r .reached));
+          common =
+              λ s.
+              let r = marked-served p held c s in
+              (r .location, subst T (sym (t .same c (r .location))) (r .serves), w .reached-marks (r .location) (r .reached));
           apart =
               λ s v a b.
               T-not (served p (marks p held) c) s
@@ -74,7 +80,8 @@ none-served table row n = record { meet = λ c. record { common = λ t. absurd t
 -- ---- the sums
 
 -- the rows of an accepted picture are as the sums need them
-pub sums-ready : (bs : List ℕ) (h : Header) → Read bs h → {serves : ℕ → ℕ → Bool} {table : List (List ℕ)} {weights guarded : List ℕ} → RowsOf (suc endpointsMax) serves table
+pub sums-ready : (bs : List ℕ) (h : Header) → Read bs h → {serves : ℕ → ℕ → Bool} {table : List (List ℕ)} {weights guarded : List ℕ}
+    → RowsOf (suc endpointsMax) serves table
     → EndpointsOf (pictureOf bs) weights guarded → Small weights × (length table ≡ suc endpointsMax) × (h .endpoints ≤ endpointsMax)
 sums-ready bs h r t e = (record { many = e .many; weight = λ c. rw (e .weight c) (weight-small bs c) }, t .many, read-limited bs h r .counts .endpoints-most)
 
@@ -95,7 +102,8 @@ all-served p f = ap (weightWhere p) (fun-ext (λ c. and-true (f c)))
 
 -- ---- what weighing gives
 
-module _ (p : Picture) (table : List (List ℕ)) (weights guarded : List ℕ) (d : ℕ) (named : Named p) (t : RowsOf (suc endpointsMax) (λ c a. joins (p .serviceLinks) a c) table) (e : EndpointsOf p weights guarded)
+module _ (p : Picture) (table : List (List ℕ)) (weights guarded : List ℕ) (d : ℕ) (named : Named p)
+    (t : RowsOf (suc endpointsMax) (λ c a. joins (p .serviceLinks) a c) table) (e : EndpointsOf p weights guarded)
     (many : d ≡ endpointCount p) (row parent depth : List ℕ) (now : Walked (joins (p .links)) (isHeld p) (marked row) parent depth) where
   pub served-value : (none : List ℕ) (w m : ℕ) → ((v : ℕ) → ¬ T (marked none v)) → LostBetween table weights guarded d row none w m → w ≡ servedWeight p
   unfolding servedWeight
@@ -103,7 +111,8 @@ module _ (p : Picture) (table : List (List ℕ)) (weights guarded : List ℕ) (d
       l .weighs (served p (marks p (isHeld p))) (λ _. false) (serving p (isHeld p) table row parent depth named t now) (none-served table none n)
       ∙ between-weight p weights guarded e d many (served p (marks p (isHeld p))) (λ _. false) ∙ all-served p (served p (marks p (isHeld p)))
 
-  module _ (b : ℕ) (row′ parent′ depth′ : List ℕ) (without : Walked (joins (p .links)) (heldWithout p b) (marked row′) parent′ depth′) (w m : ℕ) (l : LostBetween table weights guarded d row row′ w m) where
+  module _ (b : ℕ) (row′ parent′ depth′ : List ℕ) (without : Walked (joins (p .links)) (heldWithout p b) (marked row′) parent′ depth′) (w m : ℕ)
+      (l : LostBetween table weights guarded d row row′ w m) where
     before : ℕ → Bool
     before = served p (marks p (isHeld p))
 

@@ -35,16 +35,22 @@ few : (c : tie.At-loop Inv-loop μ-loop) → c .before .before .args .h .endpoin
 few c = read-limited _ _ (c .loop .inv .read) .counts .endpoints-most
 
 -- what was read is the picture's
-weight : (c : tie.After-endpoint-weight Inv-loop μ-loop) → c .endpoint-weight .result ≡ weightOf (pictureOf (c .before .before .before .before .args .s .now)) (c .before .before .loop .c)
+weight : (c : tie.After-endpoint-weight Inv-loop μ-loop) → let l = c .before .before in
+    c .endpoint-weight .result ≡ weightOf (pictureOf (l .before .before .args .s .now)) (l .loop .c)
 unfolding weightOf
-weight c = c .endpoint-weight .ensures ∙ ap (λ (p : Picture). endpointOf p (c .before .before .loop .c) .weight) (read-picture _ _ (c .before .before .loop .inv .read))
+weight c =
+    let l = c .before .before .loop in
+    c .endpoint-weight .ensures ∙ ap (λ (p : Picture). endpointOf p (l .c) .weight) (read-picture _ _ (l .inv .read))
 
-protected : (c : tie.After-endpoint-protected Inv-loop μ-loop) → endpointOf (pictureOf (c .before .before .before .before .before .args .s .now)) (c .before .before .before .loop .c) .protected ≡ c .endpoint-protected .result
+protected : (c : tie.After-endpoint-protected Inv-loop μ-loop) → let l = c .before .before .before in
+    endpointOf (pictureOf (l .before .before .args .s .now)) (l .loop .c) .protected ≡ c .endpoint-protected .result
 protected c =
-    sym (c .endpoint-protected .ensures ∙ ap (λ (p : Picture). endpointOf p (c .before .before .before .loop .c) .protected) (read-picture _ _ (c .before .before .before .loop .inv .read)))
+    let l = c .before .before .before .loop in
+    sym (c .endpoint-protected .ensures ∙ ap (λ (p : Picture). endpointOf p (l .c) .protected) (read-picture _ _ (l .inv .read)))
 
 -- the endpoint at hand is looked at, and marked if it is protected
-protected-next : (c : tie.Joined1 Inv-loop μ-loop) → Scanned (λ u. endpointOf (pictureOf (c .before .before .before .before .before .before .args .s .now)) u .protected) (c .if1 .protected) (c .before .before .before .before .loop .c + 1)
+protected-next : (c : tie.Joined1 Inv-loop μ-loop) → let l = c .before .before .before .before in
+    Scanned (λ u. endpointOf (pictureOf (l .before .before .args .s .now)) u .protected) (c .if1 .protected) (l .loop .c + 1)
 protected-next c =
     let l = c .before .before .before .before .loop in
     ⊎-elim
@@ -89,18 +95,20 @@ loop-less c = search needs
 loop-again : tie.Need-loop-again Inv-loop μ-loop
 loop-again c =
     let l = c .before .before .before .before .loop in
+    let few-left : l .c ≤ endpointsMax = omega (arith, few (c .before .before .before .before)) in
     record {
       some = omega arith;
       within = omega arith;
       read = l .inv .read;
-      weighed = weighing-next _ (l .weights) (l .c) _ (l .inv .some) (omega (arith, few (c .before .before .before .before))) (l .inv .weighed) (weight (c .before .before));
+      weighed = weighing-next _ (l .weights) (l .c) _ (l .inv .some) few-left (l .inv .weighed) (weight (c .before .before));
       protected = protected-next c;
     }
 
 returns : tie.Need-returns Inv-loop μ-loop
 returns c =
     let l = c .before .loop in
-    endpoints-looked _ _ _ (l .c) (omega (arith, read-endpoints-length _ _ (l .inv .read))) (omega (arith, read-endpoints-length _ _ (l .inv .read))) (l .inv .weighed) (l .inv .protected)
+    let d = read-endpoints-length _ _ (l .inv .read) in
+    endpoints-looked _ _ _ (l .c) (omega (arith, d)) (omega (arith, d)) (l .inv .weighed) (l .inv .protected)
 
 pub endpoint-rows-spec : {M : Type 1} → statement M
 endpoint-rows-spec =

@@ -21,7 +21,8 @@ returns : tie.Need-returns
 returns c =
     let a = c .before .before .args in
     let pre = c .before .before .pre in
-    ap (λ (x : ℕ). eqb x 0) (c .slot-state .ensures ∙ ap (λ (p : Picture). slotOf p (a .v) .state) (read-picture _ _ (pre .0))) ∙ held-state (pictureOf (a .s .now)) (a .v) (pre .1)
+    let state = c .slot-state .ensures ∙ ap (λ (p : Picture). slotOf p (a .v) .state) (read-picture _ _ (pre .0)) in
+    ap (λ (x : ℕ). eqb x 0) state ∙ held-state (pictureOf (a .s .now)) (a .v) (pre .1)
 
 pub is-held-spec : {M : Type 1} → statement M
 is-held-spec = tie.close (tie.spec slot-state-requires returns)

@@ -81,8 +81,10 @@ mark-requires c κs =
     let z = read-sizes _ _ (p .0) in
     let n = read-limited _ _ (p .0) in
     let many = l .inv .many ∙ ap rowsFor (c .before .before .if1 .taken) in
-    let small : l .i < length (pictureOf (a .s .now) .serviceLinks) = omega (arith, read-services-length _ _ (p .0), nth-service-link-requires (c .before .before) κs .1) in
-    rw (c .before .nth-service-link .ensures, read-picture _ _ (p .0)) (omega (arith, many, n .counts .endpoints-most, k .endpoint-most (l .i) small), omega (arith, k .location (l .i) small))
+    let below = nth-service-link-requires (c .before .before) κs .1 in
+    let small : l .i < length (pictureOf (a .s .now) .serviceLinks) = omega (arith, read-services-length _ _ (p .0), below) in
+    rw (c .before .nth-service-link .ensures, read-picture _ _ (p .0))
+    (omega (arith, many, n .counts .endpoints-most, k .endpoint-most (l .i) small), omega (arith, k .location (l .i) small))
 
 nth-link-requires : tie.Need-nth-link-requires Inv-loop μ-loop
 nth-link-requires c κs =
@@ -98,7 +100,8 @@ mark-requires-2 c κs =
     let k = read-links _ _ (p .0) in
     let z = read-sizes _ _ (p .0) in
     let many = l .inv .many ∙ ap rowsFor (c .before .before .if1 .left) in
-    let small : l .i < length (pictureOf (a .s .now) .links) = omega (arith, read-links-length _ _ (p .0), nth-link-requires (c .before .before) κs .1) in
+    let below = nth-link-requires (c .before .before) κs .1 in
+    let small : l .i < length (pictureOf (a .s .now) .links) = omega (arith, read-links-length _ _ (p .0), below) in
     rw (c .before .nth-link .ensures, read-picture _ _ (p .0)) (omega (arith, many, k .from (l .i) small), omega (arith, k .to (l .i) small))
 
 add-i : tie.Need-add-i Inv-loop μ-loop
@@ -115,8 +118,12 @@ loop-again c =
     let marks = marksOf (a .services) (pictureOf (a .s .now)) in
     let small : l .i < length marks = omega (arith, long _ _ (p .0) (a .services), p .1) in
     ⊎-elim
-    (λ w. rw (w .5) (linking-next _ marks (l .table) _ (l .i) (turned (w .1 .result)) (l .inv) small (service _ _ (p .0) _ _ _ (w .0 .taken) (w .1 .ensures)) (w .3 .ensures)))
-    (λ w. rw (w .5) (linking-next _ marks (l .table) _ (l .i) (w .1 .result) (l .inv) small (link _ _ (p .0) _ _ _ (w .0 .left) (w .1 .ensures)) (w .3 .ensures)))
+    (λ w.
+    let read = service _ _ (p .0) _ _ _ (w .0 .taken) (w .1 .ensures) in
+    rw (w .5) (linking-next _ marks (l .table) _ (l .i) (turned (w .1 .result)) (l .inv) small read (w .3 .ensures)))
+    (λ w.
+    let read = link _ _ (p .0) _ _ _ (w .0 .left) (w .1 .ensures) in
+    rw (w .5) (linking-next _ marks (l .table) _ (l .i) (w .1 .result) (l .inv) small read (w .3 .ensures)))
     (c .if1 .came)
 
 same-length : tie.Need-same-length Inv-loop μ-loop
@@ -127,7 +134,8 @@ returns c =
     let a = c .before .before .before .args in
     let p = c .before .before .before .pre in
     let l = c .before .loop in
-    all-marked (a .services) (pictureOf (a .s .now)) (l .table) (linking-ended _ _ (l .table) (l .i) (l .inv) (omega (arith, long _ _ (p .0) (a .services), p .1)))
+    let marked = linking-ended _ _ (l .table) (l .i) (l .inv) (omega (arith, long _ _ (p .0) (a .services), p .1)) in
+    all-marked (a .services) (pictureOf (a .s .now)) (l .table) marked
 
 pub mark-rows-spec : {M : Type 1} → statement M
 mark-rows-spec =

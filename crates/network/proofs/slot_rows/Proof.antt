@@ -33,7 +33,8 @@ small : (c : tie.At-loop Inv-loop μ-loop) → c .before .before .args .h .slots
 small c = read-limited _ _ (c .loop .inv .read) .slots
 
 -- the slot at hand is looked at, and marked if it is held
-held-next : (c : tie.Joined1 Inv-loop μ-loop) → Scanned (isHeld (pictureOf (c .before .before .before .before .before .args .s .now))) (c .if1 .held) (c .before .before .before .loop .v + 1)
+held-next : (c : tie.Joined1 Inv-loop μ-loop) → let l = c .before .before .before in
+    Scanned (isHeld (pictureOf (l .before .before .args .s .now))) (c .if1 .held) (l .loop .v + 1)
 held-next c =
     let l = c .before .before .before .loop in
     ⊎-elim
@@ -41,7 +42,8 @@ held-next c =
     (λ w. rw (w .1) (scanned-miss _ _ (l .v) (l .inv .some) (l .inv .held) (sym (c .before .is-held .ensures) ∙ w .0 .left)))
     (c .if1 .came)
 
-near-next : (c : tie.Joined2 Inv-loop μ-loop) → Scanned (isNearHeld (pictureOf (c .before .before .before .before .before .before .before .args .s .now))) (c .if2 .near) (c .before .before .before .before .before .loop .v + 1)
+near-next : (c : tie.Joined2 Inv-loop μ-loop) → let l = c .before .before .before .before .before in
+    Scanned (isNearHeld (pictureOf (l .before .before .args .s .now))) (c .if2 .near) (l .loop .v + 1)
 near-next c =
     let l = c .before .before .before .before .before .loop in
     ⊎-elim

@@ -30,8 +30,8 @@ abbrev μ-loop : tie.MeasureT-loop
 μ-loop services weights d after protected gone weight₀ mark₀ c₀ weight mark c = d + 1 - c
 
 -- a lost endpoint's weight is added
-weight-next : (c : tie.Joined1 Inv-loop μ-loop)
-    → c .if1 .weight ≡ c .before .before .before .before .loop .weight + on (c .before .is-lost .result) (getD (c .before .before .before .before .before .before .args .weights .now) (c .before .before .before .before .loop .c) 0)
+weight-next : (c : tie.Joined1 Inv-loop μ-loop) → let l = c .before .before .before .before in
+    c .if1 .weight ≡ l .loop .weight + on (c .before .is-lost .result) (getD (l .before .before .args .weights .now) (l .loop .c) 0)
 unfolding on
 weight-next c =
     let l = c .before .before .before .before .loop in
@@ -43,9 +43,9 @@ weight-next c =
 
 -- a lost protected endpoint sets the mark
 mark-next : (c : tie.Joined2 Inv-loop μ-loop)
-    → on (marked (c .before .before .before .before .before .before .before .before .before .args .t3) (c .before .before .before .before .before .before .before .loop .c) && c .before .before .before .before .is-lost .result) 1
-    + on (not (marked (c .before .before .before .before .before .before .before .before .before .args .t3) (c .before .before .before .before .before .before .before .loop .c) && c .before .before .before .before .is-lost .result)) (c .before .before .before .before .before .before .before .loop .mark)
-    ≡ c .if2 .mark
+    → let l = c .before .before .before .before .before .before .before in
+    let hit : Bool = marked (l .before .before .args .t3) (l .loop .c) && c .before .before .before .before .is-lost .result in
+    on hit 1 + on (not hit) (l .loop .mark) ≡ c .if2 .mark
 unfolding on
 mark-next c =
     let l = c .before .before .before .before .before .before .before .loop in

@@ -50,7 +50,9 @@ walk-requires c κs = search needs
 -- the row of the block, by the picture's block size
 block : (c : tie.After-walk) → let s = c .before .before .before .before .before .before .before .before .before .before .before .before in
     BlockRow (pictureOf (s .args .s .now) .blockSize) (s .args .b) (c .before .before .block-row .result)
-block c = rw (read-block-size _ _ (c .before .before .before .before .before .before .before .before .before .before .before .before .pre .0)) (c .before .before .block-row .ensures)
+block c =
+    let s = c .before .before .before .before .before .before .before .before .before .before .before .before in
+    rw (read-block-size _ _ (s .pre .0)) (c .before .before .block-row .ensures)
 
 walk-requires-2 : tie.Need-walk-requires-2
 walk-requires-2 c κs = left-slots _ _ _ _ _ _ (c .before .before .before .before .slot-rows .ensures) (block c) (c .before .minus .ensures)
