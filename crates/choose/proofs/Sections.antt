@@ -1,0 +1,81 @@
+-- The section of a candidate: what the rows of a picture give is what the specification says. Assumes nothing.
+use mathlib.Core.Path.{_≡_, refl, sym}
+use mathlib.Core.List.{List}
+use Prim.Native.Nat.{ℕ, _*_, _<_}
+use native.Mathlib.Omega.{arith}
+use lib.ListN.{length}
+use Rattle.packing.specs.Holding.{Put}
+use Rattle.rows.specs.Rows.{marked, linkedIn, Minus, locationsMax}
+use Rattle.graph.specs.Held.{heldIn}
+use Rattle.graph.specs.Steps.{Walked}
+use Rattle.picture.specs.declared.Header.{Header}
+use Rattle.picture.specs.Layout.{edition1}
+use Rattle.picture.specs.Picture.{Picture, pictureOf}
+use Rattle.picture.specs.Inner.{Read}
+use Rattle.picture.proofs.Facts.{read-limited}
+use Rattle.network.specs.declared.Cost.{Cost}
+use Rattle.network.specs.Words.{blockCount, heldWithout, joins}
+use Rattle.network.specs.Tests.{weighed}
+use Rattle.network.specs.Rows.{SlotRowsOf, BlockRow}
+use Rattle.network.proofs.Named.{accepted-named}
+use Rattle.network.proofs.Weights.{mark-le, weighed-block}
+use Rattle.weigh.specs.Sums.{LostBetween}
+use Rattle.weigh.proofs.Blocks.{read-block-size, read-endpoints}
+use Rattle.weigh.proofs.Serving.{walked-over, left-slots, left-held, loss-value, mark-value}
+use Rattle.evidence.specs.Canonical.{sectionFields}
+use Rattle.evidence.proofs.Fields.{blocks-small, loss-small}
+use Rattle.choose.specs.Writing.{arraySection, SectionFits}
+use Rattle.choose.specs.Sections.{WeighRows, Left, Room, SectionDone}
+use Rattle.choose.proofs.Nodes.{walked-nodes}
+
+-- what is held without a block, by the block's row
+pub read-left : {bs : List ℕ} {h : Header} {b : ℕ} {holding nearby row rest : List ℕ} → Read bs h → SlotRowsOf (pictureOf bs) holding nearby
+    → BlockRow (h .«block_size») b row → Minus holding row rest → Left (pictureOf bs) b rest
+read-left {bs} {h} {b} {row = row} r s k m =
+    let own : BlockRow (pictureOf bs .blockSize) b row = rw (read-block-size bs h r) k in
+    record { slots = left-slots _ _ _ _ _ _ s own m; held = left-held _ _ _ _ _ _ s own m }
+
+module _ {bs : List ℕ} {h : Header} {linkTable serviceTable : List (List ℕ)} {weights guarded reached : List ℕ} (r : WeighRows bs h linkTable serviceTable weights guarded reached) where
+  abbrev p : Picture
+  p = pictureOf bs
+
+  -- the section of a block has room, and its values fit
+  pub section-fits : {b at : ℕ} {w : Cost} {ps ds buf : List ℕ} → w ≡ weighed (pictureOf bs) b → b < blockCount (pictureOf bs) → Room (h .slots) at 1 buf → length ps ≡ locationsMax → length ds ≡ locationsMax
+      → SectionFits at (h .slots) w ps ds buf
+  section-fits {b} e k o x y =
+      let ok = r .read .accepted in
+      let slots = read-limited bs h (r .read) .slots in
+      rw e
+      (record {
+        room = omega (arith, o .fits);
+        low = omega (arith, o .low);
+        block = omega (arith, weighed-block p b, blocks-small bs ok);
+        loss = loss-small bs ok b;
+        mark = omega (arith, mark-le p b);
+        more-parents = omega arith;
+        more-depths = omega arith;
+      })
+
+  -- with the walk over what is left, and the sums of what is lost
+  module _ {b loss mark : ℕ} {left still ps ds : List ℕ} (l : Left (pictureOf bs) b left) (w : Walked (linkedIn linkTable) (heldIn left) (marked still) ps ds)
+      (s : LostBetween serviceTable weights guarded (h .endpoints) reached still loss mark) where
+    abbrev cost : Cost
+    cost = record { block = b; loss = loss; mark = mark }
+
+    left-walked : Walked (joins (p .links)) (heldWithout p b) (marked still) ps ds
+    left-walked = walked-over p _ linkTable left _ ps ds (r .links) (l .held) w
+
+    pub lost-cost : cost ≡ weighed (pictureOf bs) b
+    lost-cost =
+        let named = accepted-named bs (r .read .accepted) in
+        let count = read-endpoints bs h (r .read) in
+        let lost = loss-value p _ _ _ _ named (r .services) (r .ends) count _ _ _ (r .now) b _ _ _ left-walked _ _ s in
+        let told = mark-value p _ _ _ _ named (r .services) (r .ends) count _ _ _ (r .now) b _ _ _ left-walked _ _ s in
+        λ i. record { block = sym (weighed-block p b) i; loss = lost i; mark = told i }
+
+    section-same : arraySection cost ps ds (h .slots) ≡ sectionFields edition1 p (weighed p b)
+    unfolding arraySection sectionFields
+    section-same = rw (← lost-cost, walked-nodes ps ds (r .read) left-walked)
+
+    pub section-done : {at : ℕ} {buf buf′ : List ℕ} → Put buf (at * 8) (arraySection cost ps ds (h .slots)) buf′ → SectionDone (pictureOf bs) b at buf buf′ cost
+    section-done put = record { put = rw section-same at put; cost = lost-cost }
