@@ -2,3 +2,4 @@
 pub mod Writing
 pub mod Nodes
 pub mod Sections
+pub mod Gathering

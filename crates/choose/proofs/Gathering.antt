@@ -1,0 +1,88 @@
+-- The sections of the candidates, block by block. Assumes nothing.
+use mathlib.Core.Path.{_≡_, refl, sym, ap₂, _∙_}
+use mathlib.Core.Bool.{true, false}
+use mathlib.Core.List.{List, [], _∷_, _++_, map, append-nil}
+use Prim.Native.Nat.{ℕ, suc, _+_, _*_, _≤_, _<_}
+use native.Mathlib.Omega.{arith}
+use native.Mathlib.Nat.{zero-add, suc-mul, mul-le-mul-right}
+use native.Mathlib.Numerals.{add-one}
+use lib.ListN.{length, length-append, length-map}
+use Rattle.lists.specs.Lists.{range, filter, flat}
+use Rattle.lists.proofs.Growing.{map-append, flat-map-more, filter-more, filter-grows}
+use Rattle.lists.proofs.Scans.{count-hit}
+use Rattle.packing.specs.Holding.{Put}
+use Rattle.packing.proofs.Putting.{put-none, put-behind, put-same}
+use Rattle.picture.specs.Layout.{edition1}
+use Rattle.picture.specs.Picture.{Picture}
+use Rattle.network.specs.declared.Cost.{Cost}
+use Rattle.network.specs.Words.{slotCount, blockCount}
+use Rattle.network.specs.Tests.{weighed, isCandidate, candidates}
+use Rattle.evidence.specs.declared.Choice.{Choice}
+use Rattle.evidence.specs.Layout.{sectionBytes}
+use Rattle.evidence.specs.Canonical.{noChoice, weighings, bettered, bettering, least, sectionFields}
+use Rattle.evidence.proofs.Places.{sections-whole}
+use Rattle.evidence.proofs.Fields.{sections-span}
+use Rattle.evidence.proofs.Least.{least-last}
+use Rattle.choose.specs.Sections.{Room, SectionDone, Sectioned}
+
+-- ---- the candidates below a block
+
+module _ (p : Picture) where
+  -- as they weigh
+  pub weighedBelow : ℕ → List Cost
+  weighedBelow b = map (weighed p) (filter (isCandidate p) (range 0 b))
+
+  pub below-hit : (b : ℕ) → isCandidate p b ≡ true → weighedBelow (b + 1) ≡ weighedBelow b ++ (weighed p b ∷ [])
+  unfolding weighedBelow
+  below-hit b e = rw (add-one, filter-more, zero-add, e, map-append)
+
+  pub below-miss : (b : ℕ) → isCandidate p b ≡ false → weighedBelow (b + 1) ≡ weighedBelow b
+  unfolding weighedBelow
+  below-miss b e = rw (add-one, filter-more, zero-add, e, append-nil)
+
+  pub below-all : weighedBelow (blockCount p) ≡ weighings p
+  unfolding weighedBelow weighings candidates
+  below-all = refl
+
+  -- one that is met below the last block is not among those before
+  pub below-fewer : (b : ℕ) → isCandidate p b ≡ true → b < blockCount p → length (weighedBelow b) < length (candidates p)
+  unfolding weighedBelow candidates
+  below-fewer b e l =
+      omega (
+        arith,
+        length-map (filter (isCandidate p) (range 0 b)) (weighed p),
+        count-hit (isCandidate p) 0 b (rw zero-add e),
+        filter-grows (isCandidate p) 0 (b + 1) (blockCount p) (omega arith),
+      )
+
+-- ---- their sections, and the choice among them
+
+-- the sections of some costs stand from byte `at` on, byte q is behind them, and the choice is that among them
+pub record SectionsDone (p : Picture) (n at : ℕ) (ws : List Cost) (buf buf′ : List ℕ) (q : ℕ) (best : Choice) : Type 0 where
+  pub behind : q ≡ at + length ws * sectionBytes edition1 n
+  pub put : Put buf (at * 8) (flat (map (sectionFields edition1 p) ws)) buf′
+  pub choice : best ≡ least ws
+
+module _ (p : Picture) {n : ℕ} (z : slotCount p ≡ n) where
+  pub sections-begun : (at : ℕ) (buf : List ℕ) → SectionsDone p n at (weighedBelow p 0) buf buf at noChoice
+  unfolding weighedBelow filter range flat least bettering
+  sections-begun at buf = record { behind = omega arith; put = put-none buf (at * 8); choice = refl }
+
+  pub sections-hit : {at b q size : ℕ} {ws : List Cost} {buf mid buf′ : List ℕ} {best best′ : Choice} {w : Cost} → SectionsDone p n at ws buf mid q best → SectionDone p b q mid buf′ w → best′ ≡ bettered best w
+      → size ≡ sectionBytes edition1 n → SectionsDone p n at (ws ++ (weighed p b ∷ [])) buf buf′ (q + size) best′
+  sections-hit {at} {b} {q} {size} {ws} s d f k =
+      record {
+        behind = rw (length-append, add-one) (omega (arith, s .behind, suc-mul (length ws) (sectionBytes edition1 n)));
+        put = rw flat-map-more (put-behind (at * 8) _ _ (s .put) (put-same (d .put) (omega (arith, s .behind, rw z at (sections-span edition1 p ws), sections-whole n (length ws))) refl));
+        choice = f ∙ ap₂ bettered (s .choice) (d .cost) ∙ sym (least-last ws (weighed p b));
+      }
+
+  pub sections-ended : {at q : ℕ} {buf buf′ : List ℕ} {best : Choice} → SectionsDone p n at (weighings p) buf buf′ q best → Sectioned p at buf buf′ best
+  sections-ended s = record { put = s .put; choice = s .choice }
+
+  -- where more candidates are to come, the next has room
+  pub room-more : {at q : ℕ} {ws : List Cost} {buf buf′ : List ℕ} {best : Choice} → SectionsDone p n at ws buf buf′ q best → length ws < length (candidates p) → Room n at (length (candidates p)) buf → Room n q 1 buf′
+  room-more {ws = ws} s l o =
+      let x = sectionBytes edition1 n in
+      let m : suc (length ws) * x ≤ length (candidates p) * x = mul-le-mul-right x l in
+      record { fits = omega (arith, s .behind, s .put .long, suc-mul (length ws) x, o .fits); low = omega (arith, s .behind, suc-mul (length ws) x, o .low) }
