@@ -3,3 +3,4 @@ pub mod Writing
 pub mod Nodes
 pub mod Sections
 pub mod Gathering
+pub mod Evidence

@@ -19,14 +19,18 @@ use Rattle.evidence.specs.Calls.{lengthFor, chooseFault, chosenBytes}
 use Rattle.evidence.proofs.Places.{head-whole, forest-whole, section-bytes, sections-whole}
 use Rattle.evidence.proofs.Fields.{slots-small, candidates-few, length-evidence}
 
+-- the byte behind the head and the first forest
+abbrev pub sectionsStart : ℕ → ℕ
+sectionsStart n = 9 + n * 2
+
 -- where the sections end
-pub sections-end : (n c : ℕ) → sectionAt edition1 n c ≡ (9 + n * 2 + c * sectionBytes edition1 n) * 8
+pub sections-end : (n c : ℕ) → sectionAt edition1 n c ≡ (sectionsStart n + c * sectionBytes edition1 n) * 8
 unfolding sectionAt
 sections-end n c = omega (arith, head-whole, forest-whole n, sections-whole n c)
 
-pub evidence-bytes : (n c : ℕ) {k : ℕ} → sectionAt edition1 n c ≡ k * 8 → evidenceBytes edition1 n c ≡ k
+pub evidence-bytes : (n c : ℕ) → evidenceBytes edition1 n c ≡ sectionsStart n + c * sectionBytes edition1 n
 unfolding evidenceBytes
-evidence-bytes n c e = omega (arith, e)
+evidence-bytes n c = omega (arith, sections-end n c)
 
 -- "at most 29589 bytes": at most 60 candidates and 240 slots
 pub length-most : (bs : List ℕ) → pictureFault bs ≡ 0 → lengthFor bs ≤ evidenceMax
@@ -35,7 +39,7 @@ length-most bs ok =
     let n = slotCount (pictureOf bs) in
     let c = length (candidates (pictureOf bs)) in
     let m : sectionBytes edition1 n ≤ 485 = omega (arith, section-bytes n, slots-small bs ok) in
-    omega (arith, evidence-bytes n c (sections-end n c), mul-le-mul (candidates-few bs ok) m, slots-small bs ok)
+    omega (arith, evidence-bytes n c, mul-le-mul (candidates-few bs ok) m, slots-small bs ok)
 
 -- ---- what choose writes for an accepted picture, where the buffer is long enough
 
