@@ -4,3 +4,4 @@ pub mod Nodes
 pub mod Sections
 pub mod Gathering
 pub mod Evidence
+pub mod Answering
