@@ -1,8 +1,6 @@
 -- Laws of choosing.
+pub mod Writing
 pub mod Nodes
-pub mod Heads
-pub mod Least
-pub mod Counting
 pub mod Sections
 pub mod Gathering
 pub mod Evidence

@@ -5,7 +5,6 @@ use mathlib.Core.Logic.{⊎-elim}
 use mathlib.Core.List.{List, [], _∷_, _++_, map}
 use Prim.Native.Nat.{ℕ, zero, suc, _+_, _*_, _^_, _≤_, _<_}
 use native.Mathlib.Omega.{arith}
-use native.Mathlib.Nat.{mul-assoc}
 use lib.ListN.{length, getD}
 use Rattle.lists.specs.Lists.{range, sum, flat}
 use Rattle.lists.proofs.Filters.{length-filter-le}
@@ -36,6 +35,7 @@ use Rattle.evidence.specs.Canonical.{noCost, weighings, least, fieldsOf,
 use Rattle.evidence.specs.Calls.{lengthFor}
 use Rattle.evidence.proofs.Least.{least-right}
 use Rattle.evidence.proofs.Weighings.{weighings-length, weighing-at}
+use Rattle.evidence.proofs.Places.{head-whole, forest-whole, sections-whole}
 
 -- a node that no list has, for a place past its end
 abbrev pub noNode : Node
@@ -56,16 +56,22 @@ module _ (e : Edition) where
   unfolding span headFields fieldsOf headWidths sum
   head-span c count served = refl
 
+  pub nodes-span : (xs : List Node) → span (forestFields e xs) ≡ forestBits e (length xs)
+  unfolding forestFields forestBits
+  nodes-span = span-flat (nodeFields e) (sum (nodeWidths e)) node-span
+
   module _ (p : Picture) where
     pub forest-span : (held : ℕ → Bool) → span (forestFields e (forestOf p held)) ≡ forestBits e (slotCount p)
-    unfolding forestFields forestBits
-    forest-span held = span-flat (nodeFields e) (sum (nodeWidths e)) node-span (forestOf p held) ∙ rw (length-forest-of p held)
+    forest-span held = nodes-span (forestOf p held) ∙ ap (forestBits e) (length-forest-of p held)
 
     pub section-span : (w : Cost) → span (sectionFields e p w) ≡ sectionBits e (slotCount p)
     unfolding sectionFields sectionBits
     section-span w =
         span-append (fieldsOf sectionWidths (w .block ∷ w .loss ∷ w .mark ∷ [])) (forestFields e (forestOf p (heldWithout p (w .block))))
         ∙ ap (λ (n : ℕ). span (fieldsOf sectionWidths (w .block ∷ w .loss ∷ w .mark ∷ [])) + n) (forest-span (heldWithout p (w .block))) ∙ unfold span fieldsOf sectionWidths sum in refl
+
+    pub sections-span : (ws : List Cost) → span (flat (map (sectionFields e p) ws)) ≡ length ws * sectionBits e (slotCount p)
+    sections-span = span-flat (sectionFields e p) (sectionBits e (slotCount p)) section-span
 
 -- ---- the whole
 
@@ -89,7 +95,7 @@ module _ (e : Edition) (p : Picture) where
         span-append nodes-of sections-of,
         head-span e (least (weighings p)) (length (weighings p)) (servedWeight p),
         forest-span e p (isHeld p),
-        span-flat (sectionFields e p) (sectionBits e (slotCount p)) (section-span e p) (weighings p) ∙ ap (λ (c : ℕ). c * sectionBits e (slotCount p)) (weighings-length p),
+        sections-span e p (weighings p) ∙ ap (λ (c : ℕ). c * sectionBits e (slotCount p)) (weighings-length p),
       )
 
 -- ---- each value fits its width
@@ -169,13 +175,8 @@ module _ (bs : List ℕ) (z : pictureFault bs ≡ 0) where
 
 -- every part takes whole bytes
 pub whole-bytes : (n c : ℕ) → sectionAt edition1 n c ≡ 8 * evidenceBytes edition1 n c
-unfolding sectionAt evidenceBytes sectionBits forestBits headWidths nodeWidths sectionWidths sum
-whole-bytes n c =
-    let e : c * (40 + n * 16) ≡ c * (5 + n * 2) * 8 = ap (λ (x : ℕ). c * x) (eights n) ∙ sym (mul-assoc c (5 + n * 2) 8) in
-    omega arith
-  where
-    eights : (n : ℕ) → 40 + n * 16 ≡ (5 + n * 2) * 8
-    eights n = omega arith
+unfolding sectionAt evidenceBytes
+whole-bytes n c = omega (arith, head-whole, forest-whole n, sections-whole n c)
 
 pub span-bytes : (bs : List ℕ) → span (evidenceFields (editionOf bs) (pictureOf bs)) ≡ 8 * lengthFor bs
 unfolding lengthFor

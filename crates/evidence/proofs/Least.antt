@@ -50,14 +50,17 @@ unfolding bettering
 bettering-more c [] w = refl
 bettering-more c (x ∷ ws) w = bettering-more (bettered c x) ws w
 
+pub least-last : (ws : List Cost) (w : Cost) → least (ws ++ (w ∷ [])) ≡ bettered (least ws) w
+unfolding least
+least-last = bettering-more noChoice
+
 -- the choice of the first costs of a list, one by one
 pub least-none-yet : (ws : List Cost) → least (take 0 ws) ≡ noChoice
 unfolding least bettering
 least-none-yet ws = refl
 
 pub least-more : (ws : List Cost) (i : ℕ) → i < length ws → least (take (i + 1) ws) ≡ bettered (least (take i ws)) (getD ws i noCost)
-unfolding least
-least-more ws i h = rw (add-one, take-suc ws i noCost h) (bettering-more noChoice (take i ws) (getD ws i noCost))
+least-more ws i h = rw (add-one, take-suc ws i noCost h) (least-last (take i ws) (getD ws i noCost))
 
 -- ---- all costs of a list, after an earlier choice
 

@@ -1,9 +1,9 @@
 -- Where a section stands, and its fields. Assumes nothing.
-use mathlib.Core.Path.{_≡_, refl, ap, _∙_}
+use mathlib.Core.Path.{_≡_, refl, sym, ap, _∙_}
 use mathlib.Core.List.{List}
 use Prim.Native.Nat.{ℕ, zero, suc, _+_, _*_, _^_, _≤_, _<_}
 use native.Mathlib.Omega.{arith}
-use native.Mathlib.Nat.{mul-le-mul-right, suc-mul}
+use native.Mathlib.Nat.{mul-le-mul-right, suc-mul, mul-assoc}
 use Rattle.bits.specs.Bits.{fieldAt}
 use Rattle.lists.specs.Lists.{sum}
 use Rattle.rows.specs.Rows.{slotsMax}
@@ -20,9 +20,20 @@ pub section-bytes : (n : ℕ) → sectionBytes edition1 n ≡ 5 + n * 2
 unfolding sectionBytes
 section-bytes n = omega (arith, section-bits n)
 
--- a section takes whole bytes
+-- the head, a forest, a section and so many of them take whole bytes
+pub head-whole : sum headWidths ≡ 9 * 8
+unfolding headWidths sum
+head-whole = refl
+
+pub forest-whole : (n : ℕ) → forestBits edition1 n ≡ n * 2 * 8
+unfolding forestBits nodeWidths sum
+forest-whole n = omega arith
+
 pub section-whole : (n : ℕ) → sectionBits edition1 n ≡ sectionBytes edition1 n * 8
 section-whole n = omega (arith, section-bits n, section-bytes n)
+
+pub sections-whole : (n c : ℕ) → c * sectionBits edition1 n ≡ c * sectionBytes edition1 n * 8
+sections-whole n c = ap (λ (x : ℕ). c * x) (section-whole n) ∙ sym (mul-assoc c (sectionBytes edition1 n) 8)
 
 pub section-at : (n i : ℕ) → sectionAt edition1 n i ≡ 72 + n * 16 + i * (40 + n * 16)
 unfolding sectionAt headWidths sectionBits sectionWidths forestBits nodeWidths sum

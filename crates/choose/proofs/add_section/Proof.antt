@@ -1,14 +1,31 @@
 -- `add_section` weighs a candidate and writes its section. Assumes nothing.
-use Rattle.choose.proofs.Sections.{rows-ready, section-done, section-fits}
+use mathlib.Core.Path.{_≡_}
+use lib.ListN.{length}
+use Rattle.rows.specs.Rows.{locationsMax}
+use Rattle.weigh.proofs.Serving.{sums-ready}
+use Rattle.choose.proofs.Sections.{section-fits, lost-cost, section-done}
 use borrow.Author.Needs.{needs}
 use Rattle.choose.proofs.add_section.Statement.{statement}
 use Rattle.choose.proofs.add_section.Tie as tie
 
+-- the walk, and where the function begins
+abbrev walked : tie.After-depth → tie.After-walk
+walked c = c .before .before .before
+
+abbrev start : tie.After-depth → tie.Start
+start c = walked c .before .before .before
+
 walk-requires : tie.Need-walk-requires
-walk-requires c κs = c .before .before .pre .left .slots
+walk-requires c κs = search needs
 
 lost-between-requires : tie.Need-lost-between-requires
-lost-between-requires c κs = rows-ready (c .before .before .before .before .before .before .pre .rows)
+lost-between-requires c κs = let r = start c .pre .rows in sums-ready _ _ (r .read) (r .services) (r .ends)
+
+cast-t20 : tie.Need-cast-t20
+cast-t20 c = search needs
+
+cast-t21 : tie.Need-cast-t21
+cast-t21 c = search needs
 
 slice-aggregate-put-section : tie.Need-slice-aggregate-put-section
 slice-aggregate-put-section c = search needs
@@ -18,15 +35,20 @@ slice-aggregate-put-section-2 c = search needs
 
 put-section-requires : tie.Need-put-section-requires
 put-section-requires c κs =
-    let w = c .before .before .before .before .before .before .before in
-    let p = w .before .before .before .pre in
-    section-fits (p .rows) _ (p .left) (w .walk .ensures) (c .before .before .before .lost-between .ensures) (p .block) (p .room) (search needs) (search needs)
+    let s = c .before .before .before .before .before in
+    let w = walked (s .before) .walk in
+    let p = start (s .before) .pre in
+    let parents : length (w .result .parent) ≡ locationsMax = search needs in
+    let depths : length (w .result .depth) ≡ locationsMax = search needs in
+    section-fits (p .rows) (lost-cost (p .rows) (p .left) (w .ensures) (s .lost-between .ensures)) (p .block) (p .room) parents depths
 
 same-length : tie.Need-same-length
 same-length c = search needs
 
 returns : tie.Need-returns
-returns c = λ bs r l. section-done r _ l (c .before .before .before .before .before .before .before .before .before .before .walk .ensures) (c .before .before .before .before .before .before .lost-between .ensures) (c .before .before .put-section .ensures)
+returns c = λ bs r l.
+    let s = c .before .before .before .before .before .before .before .before in
+    section-done r l (walked (s .before) .walk .ensures) (s .lost-between .ensures) (c .before .before .put-section .ensures)
 
 pub add-section-spec : {M : Type 1} → statement M
 add-section-spec =
@@ -34,6 +56,8 @@ add-section-spec =
     (tie.spec
     walk-requires
     lost-between-requires
+    cast-t20
+    cast-t21
     slice-aggregate-put-section
     slice-aggregate-put-section-2
     put-section-requires

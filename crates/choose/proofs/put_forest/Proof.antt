@@ -60,9 +60,12 @@ loop-less c = search needs
 loop-again : tie.Need-loop-again Inv-loop μ-loop
 loop-again c =
     let l = c .before .before .before in
+    let next = l .loop .v + 1 in
+    let parents = c .before .shared-slice-known .given next in
+    let depths = c .shared-slice-known2 .given next in
     record {
       within = omega arith;
-      put = nodes-next _ _ _ _ (l .before .args .at) (l .loop .v) (l .loop .inv .put) (room l (omega arith)) (omega (arith, c .before .shared-slice-known .given (l .loop .v + 1))) (omega (arith, c .shared-slice-known2 .given (l .loop .v + 1)));
+      put = nodes-next _ _ (l .before .args .at) (l .loop .v) (l .loop .inv .put) (room l (omega arith)) (omega (arith, parents)) (omega (arith, depths));
     }
 
 same-length : tie.Need-same-length Inv-loop μ-loop

@@ -1,60 +1,72 @@
 -- `put_section` writes the fields of a section. Assumes nothing.
-use Rattle.choose.proofs.Heads.{section-put}
+use mathlib.Core.Path.{refl}
+use Prim.Native.Nat.{ℕ}
+use native.Mathlib.Omega.{arith}
+use Rattle.packing.specs.Holding.{span}
+use Rattle.packing.proofs.Putting.{put-behind, put-same}
+use Rattle.evidence.specs.Layout.{sectionWidths}
+use Rattle.evidence.specs.Canonical.{fieldsOf}
+use Rattle.evidence.proofs.Places.{section-bytes}
+use Rattle.choose.specs.Writing.{arraySection}
+use Rattle.choose.proofs.Writing.{puts-none, puts-next}
 use borrow.Author.Needs.{needs}
 use Rattle.choose.proofs.put_section.Statement.{statement}
 use Rattle.choose.proofs.put_section.Tie as tie
 
-mul-block-at : tie.Need-mul-block-at
-mul-block-at c = search needs
+-- the slots
+abbrev n : tie.After-put-field-arg → ℕ
+n c = c .before .before .before .before .args .n
 
-add-loss-at : tie.Need-add-loss-at
-add-loss-at c = search needs
-
-add-mark-at : tie.Need-add-mark-at
-add-mark-at c = search needs
+mul-q : tie.Need-mul-q
+mul-q c = search needs
 
 put-field-requires : tie.Need-put-field-requires
-put-field-requires c κs = search needs
+put-field-requires c κs = omega (arith, section-bytes (n c))
 
-cast-put-field : tie.Need-cast-put-field
-cast-put-field c = search needs
+add-put-field : tie.Need-add-put-field
+add-put-field c = search needs
 
 put-field-requires-2 : tie.Need-put-field-requires-2
-put-field-requires-2 c κs = search needs
+put-field-requires-2 c κs = omega (arith, section-bytes (n (c .before .before .before .before)))
 
-cast-put-field-2 : tie.Need-cast-put-field-2
-cast-put-field-2 c = search needs
+add-put-field-2 : tie.Need-add-put-field-2
+add-put-field-2 c = search needs
 
 put-field-requires-3 : tie.Need-put-field-requires-3
-put-field-requires-3 c κs = search needs
+put-field-requires-3 c κs = omega (arith, section-bytes (n (c .before .before .before .before .before .before .before .before)))
 
 add-put-forest : tie.Need-add-put-forest
 add-put-forest c = search needs
 
 put-forest-requires : tie.Need-put-forest-requires
-put-forest-requires c κs = search needs
+put-forest-requires c κs = omega (arith, section-bytes (n (c .before .before .before .before .before .before .before .before .before .before .before .before)))
 
 same-length : tie.Need-same-length
 same-length c = search needs
 
 returns : tie.Need-returns
+unfolding arraySection sectionWidths fieldsOf span
 returns c =
-    let k = c .before .before .before .before .before .before in
-    let b = k .before .before .before .before .before in
-    let a = b .before .before .before .before .before in
-    section-put (a .before .before .before .before .before .pre) (a .put-field .ensures) (b .put-field2 .ensures) (k .put-field3 .ensures) (c .before .before .put-forest .ensures)
+    let d = c .before .before in
+    let k = d .before .before .before .before in
+    let b = k .before .before .before .before in
+    let a = b .before .before .before .before in
+    let p = a .before .before .before .before .before .pre in
+    put-behind _ _ _
+    (puts-next (a .put-field .ensures) refl (p .block)
+    (puts-next (b .put-field2 .ensures) refl (p .loss)
+    (puts-next (k .put-field3 .ensures) (omega arith) (p .mark) puts-none)) (omega (arith, section-bytes (n (a .before)))))
+    (put-same (d .put-forest .ensures) (omega arith) refl)
 
 pub put-section-spec : {M : Type 1} → statement M
 put-section-spec =
     tie.close
     (tie.spec
-    mul-block-at
-    add-loss-at
-    add-mark-at
+    mul-q
     put-field-requires
-    cast-put-field
+    add-put-field
     put-field-requires-2
-    cast-put-field-2
+    add-put-field-2
     put-field-requires-3
     add-put-forest
     put-forest-requires

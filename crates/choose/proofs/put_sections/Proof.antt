@@ -6,95 +6,97 @@ use Prim.Native.Nat.{ℕ, _-_, _≤_, _<_}
 use native.Mathlib.Omega.{arith}
 use Rattle.picture.specs.declared.Header.{Header}
 use Rattle.picture.specs.Picture.{pictureOf}
+use Rattle.picture.specs.Inner.{Read}
 use Rattle.picture.proofs.Facts.{read-sizes}
 use Rattle.network.specs.Words.{blockCount}
 use Rattle.network.specs.Tests.{isCandidate}
 use Rattle.network.specs.Rows.{SlotRowsOf}
-use Rattle.network.proofs.Blocks.{read-block, read-blocks, read-slots}
-use Rattle.choose.specs.declared.Choice.{Choice}
-use Rattle.choose.specs.Sections.{choiceOf, WeighRows, Room}
-use Rattle.choose.proofs.Sections.{read-below, read-candidate, read-left, blocks-few}
-use Rattle.choose.proofs.Gathering.{SectionsDone, sections-begun, sections-hit, sections-miss, sections-ended, room-more}
+use Rattle.network.proofs.Candidates.{marked-candidate}
+use Rattle.network.proofs.Blocks.{read-block-size, read-block, read-blocks, read-slots}
+use Rattle.evidence.specs.declared.Choice.{Choice}
+use Rattle.evidence.proofs.Fields.{blocks-small}
+use Rattle.choose.specs.Sections.{WeighRows, Room}
+use Rattle.choose.proofs.Sections.{read-left}
+use Rattle.choose.proofs.Gathering.{weighedBelow, below-hit, below-miss, below-all, below-fewer, SectionsDone, sections-begun, sections-hit, sections-ended, room-more}
 use borrow.Author.Needs.{needs}
 use Rattle.choose.proofs.put_sections.Statement.{statement}
 use Rattle.choose.proofs.put_sections.Tie as tie
 
 record Loop (h : Header) (links services : List (List ℕ)) (weights protected reached held near : List ℕ) (at blocks : ℕ) (buf₀ buf : List ℕ) (best : Choice) (q b : ℕ) : Type 0 where
   pub within : b ≤ blocks
-  pub done : (bs : List ℕ) → WeighRows bs h links services weights protected reached → SlotRowsOf (pictureOf bs) held near → SectionsDone (pictureOf bs) at b buf₀ buf q (choiceOf best)
+  pub done : (bs : List ℕ) → WeighRows bs h links services weights protected reached → SlotRowsOf (pictureOf bs) held near
+      → SectionsDone (pictureOf bs) (h .slots) at (weighedBelow (pictureOf bs) b) buf₀ buf q best
 
 abbrev Inv-loop : tie.InvT-loop
 Inv-loop buf₀ at h links services weights protected reached held near size n blocks best₀ q₀ b₀ buf best q b =
     Loop h links services weights protected reached held near at blocks buf₀ buf best q b
 
 abbrev μ-loop : tie.MeasureT-loop
-μ-loop buf₀ at h links services weights protected reached held near size n blocks best₀ q₀ b₀ buf best q b =
-    blocks - b
-
--- the block at hand is one of the picture's
-below : (c : tie.In-loop Inv-loop μ-loop) → c .before .loop .b < blockCount (pictureOf (c .before .before .before .pre .bytes))
-below c = read-below _ _ (c .before .before .before .pre .rows .read) (c .loop-test .taken)
+μ-loop buf₀ at h links services weights protected reached held near size n blocks best₀ q₀ b₀ buf best q b = blocks - b
 
 -- where the function begins
-abbrev start : (c : tie.Joined1 Inv-loop μ-loop) → tie.Start Inv-loop μ-loop
-start c = c .before .before .before .before .before .before
+abbrev start : tie.In-loop Inv-loop μ-loop → tie.Start Inv-loop μ-loop
+start c = c .before .before .before
 
--- whether the block at hand is a candidate
-candidate : (c : tie.Joined1 Inv-loop μ-loop) (bs : List ℕ) → WeighRows bs (start c .args .h) (start c .args .links .now) (start c .args .services .now) (start c .args .weights .now) (start c .args .protected) (start c .args .reached)
-    → SlotRowsOf (pictureOf bs) (start c .args .held) (start c .args .near) → c .before .meet .result ≡ isCandidate (pictureOf bs) (c .before .before .before .before .loop .b)
-candidate c bs r s = read-candidate (r .read) s (c .before .before .block-row .ensures) (c .before .meet .ensures)
+-- the block at hand is one of the picture's
+below : (c : tie.In-loop Inv-loop μ-loop) → c .before .loop .b < blockCount (pictureOf (start c .pre .bytes))
+below c = rw (← read-blocks _ _ (start c .pre .rows .read)) (c .loop-test .taken)
+
+-- whether it is a candidate
+candidate : (c : tie.After-is-candidate Inv-loop μ-loop) (bs : List ℕ) → let l = c .before .before in Read bs (start l .args .h)
+    → SlotRowsOf (pictureOf bs) (start l .args .held) (start l .args .t10) → c .is-candidate .result ≡ isCandidate (pictureOf bs) (l .before .loop .b)
+candidate c bs r s = c .is-candidate .ensures ∙ marked-candidate s (read-block-size _ _ r) _
 
 -- a candidate has room for its section
-room : (c : tie.Then1 Inv-loop μ-loop) → Room (c .before .before .before .before .before .before .args .h .slots) (c .before .before .before .before .loop .q) 1 (c .before .before .before .before .loop .buf)
+room : (c : tie.Then1 Inv-loop μ-loop) → let l = c .before .before .before in Room (start l .args .h .slots) (l .before .loop .q) 1 (l .before .loop .buf)
 room c =
-    let p = c .before .before .before .before .before .before .pre in
-    room-more (pictureOf (p .bytes)) _ (sym (read-slots _ _ (p .rows .read))) (c .before .before .before .before .loop .inv .done _ (p .rows) (p .slots))
-    (sym (read-candidate (p .rows .read) (p .slots) (c .before .before .block-row .ensures) (c .before .meet .ensures)) ∙ c .if1 .taken) (below (c .before .before .before)) (p .room)
+    let l = c .before .before .before in
+    let p = start l .pre in
+    let fewer = below-fewer _ _ (sym (candidate (c .before) _ (p .rows .read) (p .slots)) ∙ c .if1 .taken) (below l) in
+    room-more _ (read-slots _ _ (p .rows .read)) (l .before .loop .inv .done _ (p .rows) (p .slots)) fewer (p .room)
 
 div-blocks : tie.Need-div-blocks Inv-loop μ-loop
 div-blocks c = omega (arith, read-sizes _ _ (c .before .pre .rows .read) .size-some)
 
 loop-holds : tie.Need-loop-holds Inv-loop μ-loop
-unfolding choiceOf
-loop-holds c = record { within = omega arith; done = λ bs r s. sections-begun (pictureOf bs) _ _ }
+loop-holds c = record { within = omega arith; done = λ bs r s. sections-begun (pictureOf bs) (read-slots _ _ (r .read)) _ _ }
+
+is-candidate-requires : tie.Need-is-candidate-requires Inv-loop μ-loop
+is-candidate-requires c κs = read-block _ _ (start (c .before) .pre .rows .read) _ (below (c .before))
 
 block-row-requires : tie.Need-block-row-requires Inv-loop μ-loop
-block-row-requires c κs = read-block _ _ (c .before .before .before .pre .rows .read) _ (below c)
-
-meet-requires : tie.Need-meet-requires Inv-loop μ-loop
-meet-requires c κs = search needs
+block-row-requires c κs = let l = c .before .before .before in read-block _ _ (start l .pre .rows .read) _ (below l)
 
 minus-requires : tie.Need-minus-requires Inv-loop μ-loop
 minus-requires c κs = search needs
 
 add-section-requires : tie.Need-add-section-requires Inv-loop μ-loop
 add-section-requires c κs =
-    let p = c .before .before .before .before .before .before .before .before .pre in
+    let m = c .before in
+    let t = m .before .before in
+    let l = t .before .before .before in
+    let p = start l .pre in
     record {
       bytes = p .bytes;
       rows = p .rows;
-      block = below (c .before .before .before .before .before);
-      left = read-left (p .rows .read) (p .slots) (c .before .before .before .before .block-row .ensures) (c .before .minus .ensures);
-      room = room (c .before .before);
+      block = below l;
+      left = read-left (p .rows .read) (p .slots) (m .before .block-row .ensures) (m .minus .ensures);
+      room = room t;
     }
-
-cast-better : tie.Need-cast-better Inv-loop μ-loop
-cast-better c = omega (arith, blocks-few _ _ (c .before .before .before .before .before .before .before .before .before .before .before .pre .rows .read), below (c .before .before .before .before .before .before .before .before))
 
 better-requires : tie.Need-better-requires Inv-loop μ-loop
 better-requires c κs = search needs
 
-mul-q : tie.Need-mul-q Inv-loop μ-loop
-mul-q c = omega (arith, read-sizes _ _ (c .before .before .before .before .before .before .before .before .before .before .before .before .pre .rows .read) .slots-most)
+section-bytes-requires : tie.Need-section-bytes-requires Inv-loop μ-loop
+section-bytes-requires c κs =
+    let t = c .before .before .before .before .before .before .before in
+    read-sizes _ _ (start (t .before .before .before) .pre .rows .read) .slots-most
 
 add-q : tie.Need-add-q Inv-loop μ-loop
-add-q c = omega (arith, read-sizes _ _ (c .before .before .before .before .before .before .before .before .before .before .before .before .pre .rows .read) .slots-most)
-
-add-q-2 : tie.Need-add-q-2 Inv-loop μ-loop
-add-q-2 c = omega (arith, room (c .before .before .before .before .before .before) .low)
+add-q c = omega (arith, c .section-bytes .ensures, room (c .before .before .before .before .before .before .before .before) .low)
 
 add-b : tie.Need-add-b Inv-loop μ-loop
-add-b c = omega (arith, blocks-few _ _ (c .before .before .before .before .before .before .pre .rows .read), below (c .before .before .before))
+add-b c = let l = c .before .before .before in omega (arith, blocks-small _ (start l .pre .rows .read .accepted), below l)
 
 loop-less : tie.Need-loop-less Inv-loop μ-loop
 loop-less c = search needs
@@ -104,14 +106,16 @@ loop-again c =
     let l = c .before .before .before .before .loop in
     record {
       within = omega arith;
-      done =
-          λ bs r s.
+      done = λ bs r s.
+          let p = pictureOf bs in
+          let n = read-slots _ _ (r .read) in
+          let k = sym (candidate (c .before) bs (r .read) s) in
           ⊎-elim
           (λ w.
-          rw (w .7, w .8, w .9)
-          (sections-hit (pictureOf bs) _ (sym (read-slots _ _ (r .read))) (l .inv .done bs r s) (sym (candidate c bs r s) ∙ w .0 .taken)
-          (w .3 .ensures bs r (read-left (r .read) s (c .before .before .block-row .ensures) (w .1 .ensures))) (w .6 .ensures)))
-          (λ w. rw (w .1, w .2, w .3) (sections-miss (pictureOf bs) (l .inv .done bs r s) (sym (candidate c bs r s) ∙ w .0 .left)))
+          let left = read-left (r .read) s (w .1 .ensures) (w .2 .ensures) in
+          rw (w .9, w .10, w .11, below-hit p (l .b) (k ∙ w .0 .taken))
+          (sections-hit p n (l .inv .done bs r s) (w .4 .ensures bs r left) (w .7 .ensures) (w .8 .ensures)))
+          (λ w. rw (w .1, w .2, w .3, below-miss p (l .b) (k ∙ w .0 .left)) (l .inv .done bs r s))
           (c .if1 .came);
     }
 
@@ -119,7 +123,10 @@ same-length : tie.Need-same-length Inv-loop μ-loop
 same-length c = let p = c .before .before .before .pre in c .before .loop .inv .done _ (p .rows) (p .slots) .put .long
 
 returns : tie.Need-returns Inv-loop μ-loop
-returns c = λ bs r s. sections-ended (pictureOf bs) (c .before .loop .inv .done bs r s) (omega (arith, c .before .loop .inv .within, read-blocks _ _ (r .read)))
+returns c = λ bs r s.
+    let l = c .before .loop in
+    let all : l .b ≡ blockCount (pictureOf bs) = omega (arith, l .inv .within, read-blocks _ _ (r .read)) in
+    sections-ended (pictureOf bs) (read-slots _ _ (r .read)) (rw (all, below-all) at (l .inv .done bs r s))
 
 pub put-sections-spec : {M : Type 1} → statement M
 put-sections-spec =
@@ -129,15 +136,13 @@ put-sections-spec =
     μ-loop
     div-blocks
     loop-holds
+    is-candidate-requires
     block-row-requires
-    meet-requires
     minus-requires
     add-section-requires
-    cast-better
     better-requires
-    mul-q
+    section-bytes-requires
     add-q
-    add-q-2
     add-b
     loop-less
     loop-again

@@ -1,50 +1,90 @@
 -- `write_evidence` writes the first forest, the sections and then the head. Assumes nothing.
-use mathlib.Core.Path.{_≡_}
-use Prim.Native.Nat.{_+_, _*_}
+use mathlib.Core.Path.{_≡_, refl, sym}
+use mathlib.Core.List.{List}
+use Prim.Native.Nat.{ℕ, suc, _≤_}
 use native.Mathlib.Omega.{arith}
 use lib.ListN.{length}
-use Rattle.rows.specs.Rows.{locationsMax}
+use Rattle.rows.specs.Rows.{locationsMax, rowWords}
+use Rattle.packing.proofs.Putting.{put-same}
+use Rattle.picture.specs.Layout.{endpointsMax}
 use Rattle.picture.specs.Picture.{pictureOf}
 use Rattle.picture.proofs.Facts.{read-limited}
 use Rattle.network.specs.Tests.{servedWeight}
-use Rattle.choose.specs.Sections.{choiceOf, WeighRows, Sectioned}
-use Rattle.choose.proofs.Sections.{rows-ready}
-use Rattle.choose.proofs.Evidence.{clear, rows-made, lost-served, length-for, evidence-room, head-fits, evidence-put, evidence-written}
+use Rattle.rows.proofs.Marks.{clear}
+use Rattle.network.proofs.Making.{clear-made}
+use Rattle.network.proofs.Named.{accepted-named}
+use Rattle.network.proofs.Blocks.{read-endpoints}
+use Rattle.weigh.proofs.Serving.{walked-over, sums-ready, served-value}
+use Rattle.evidence.specs.Calls.{lengthFor}
+use Rattle.evidence.proofs.Places.{head-whole}
+use Rattle.evidence.proofs.Lengths.{sectionsStart}
+use Rattle.choose.specs.Sections.{WeighRows, Sectioned}
+use Rattle.choose.proofs.Evidence.{length-for, evidence-room, head-fits, evidence-written}
 use borrow.Author.Needs.{needs}
 use Rattle.choose.proofs.write_evidence.Statement.{statement}
 use Rattle.choose.proofs.write_evidence.Tie as tie
 
--- places before
-abbrev begun : (c : tie.After-walk) → tie.After-slice-known
-begun c = c .before .before .before .before .before .before .before .before
+-- ---- the places of the code, each from the next
 
-abbrev start : (c : tie.After-walk) → tie.Start
-start c = c .before .before .before .before .before .before .before .before .before .before
+abbrev linked : tie.After-walk → tie.After-link-rows
+linked c = c .before .before .before .before .before
 
-abbrev walked : (c : tie.After-lost-between) → tie.After-walk
+abbrev start : tie.After-walk → tie.Start
+start c = linked c .before .before .before .before .before .before
+
+abbrev walked : tie.After-lost-between → tie.After-walk
 walked c = c .before .before .before .before .before .before
 
+abbrev lost : tie.After-put-forest → tie.After-lost-between
+lost c = c .before .before .before .before
+
+abbrev planted : tie.After-put-sections → tie.After-put-forest
+planted c = c .before .before .before .before .before .before .before
+
+-- ---- what is known there
+
+-- the picture's bytes
+abbrev bytes : tie.After-walk → List ℕ
+bytes c = start c .args .s .now
+
+fits : (c : tie.After-walk) → lengthFor (bytes c) ≤ length (start c .args .buf .now)
+fits c = let p = start c .pre in omega (arith, p .planned .long, p .room)
+
 -- the rows of the picture
-abbrev rows : (c : tie.After-walk)
-    → WeighRows (start c .args .s .now) (start c .args .h) (c .before .before .before .before .before .link-rows .result) (c .before .before .before .before .service-link-rows .result) (c .before .before .before .endpoint-rows .result .weights) (c .before .before .before .endpoint-rows .result .protected) (c .walk .result .reached)
+abbrev rows : (c : tie.After-walk) → let ends = c .before .endpoint-rows in
+    WeighRows (bytes c) (start c .args .h) (linked c .link-rows .last .1 .1 .0) (c .before .before .before .service-link-rows .last .1 .1 .0) (ends .last .1 .1 .0) (ends .result) (c .walk .result .reached)
 rows c =
-    rows-made _ (start c .pre .read) (c .before .before .before .before .before .link-rows .ensures) (c .before .before .before .before .service-link-rows .ensures) (c .before .before .before .endpoint-rows .ensures) (start c .pre .slots) (c .walk .ensures)
+    let links = linked c .link-rows .ensures in
+    let p = start c .pre in
+    record {
+      read = p .read;
+      links = links;
+      services = c .before .before .before .service-link-rows .ensures;
+      ends = c .before .endpoint-rows .ensures;
+      parents = c .walk .result .parent;
+      depths = c .walk .result .depth;
+      now = walked-over (pictureOf (bytes c)) _ _ _ _ _ _ links (p .planned .slots .held) (c .walk .ensures);
+    }
 
 -- all that is served
-served : (c : tie.After-lost-between) → c .lost-between .result .weight ≡ servedWeight (pictureOf (start (walked c) .args .s .now))
-served c = lost-served (rows (walked c)) (clear 4) (c .lost-between .ensures)
+served : (c : tie.After-lost-between) → c .lost-between .result .weight ≡ servedWeight (pictureOf (bytes (walked c)))
+served c =
+    let r = rows (walked c) in
+    let named = accepted-named _ (r .read .accepted) in
+    served-value _ _ _ _ _ named (r .services) (r .ends) (read-endpoints _ _ (r .read)) _ _ _ (r .now) _ _ _ (clear rowWords) (c .lost-between .ensures)
 
 -- the sections behind the first forest
-sectioned : (c : tie.After-put-sections) → let w = c .before .before .before .before .before .before .before .before .before .before .before .before .before .before .before .before .before in Sectioned (pictureOf (start w .args .s .now)) (9 + start w .args .h .slots * 2) (c .before .before .before .before .before .before .before .put-forest .last .0) (c .put-sections .last .0) (choiceOf (c .put-sections .result))
-sectioned c =
-    let w = c .before .before .before .before .before .before .before .before .before .before .before .before .before .before .before .before .before in
-    c .put-sections .ensures _ (rows w) (start w .pre .slots)
+sectioned : (c : tie.After-put-sections) → let w = walked (lost (planted c)) in
+    Sectioned (pictureOf (bytes w)) (sectionsStart (start w .args .h .slots)) (planted c .put-forest .last .0) (c .put-sections .last .0) (c .put-sections .result)
+sectioned c = let w = walked (lost (planted c)) in c .put-sections .ensures _ (rows w) (start w .pre .planned .slots)
+
+-- ---- the answers
 
 link-rows-requires : tie.Need-link-rows-requires
-link-rows-requires c κs = search needs
+link-rows-requires c κs = (c .before .before .before .before .before .pre .read, clear-made locationsMax)
 
 service-link-rows-requires : tie.Need-service-link-rows-requires
-service-link-rows-requires c κs = search needs
+service-link-rows-requires c κs = (c .before .before .before .before .before .before .before .pre .read, clear-made (suc endpointsMax))
 
 endpoint-rows-requires : tie.Need-endpoint-rows-requires
 endpoint-rows-requires c κs = search needs
@@ -53,7 +93,7 @@ walk-requires : tie.Need-walk-requires
 walk-requires c κs = search needs
 
 lost-between-requires : tie.Need-lost-between-requires
-lost-between-requires c κs = rows-ready (rows (c .before .before .before .before .before))
+lost-between-requires c κs = let r = rows (c .before .before .before .before .before) in sums-ready _ _ (r .read) (r .services) (r .ends)
 
 slice-aggregate-put-forest : tie.Need-slice-aggregate-put-forest
 slice-aggregate-put-forest c = search needs
@@ -63,30 +103,24 @@ slice-aggregate-put-forest-2 c = search needs
 
 put-forest-requires : tie.Need-put-forest-requires
 put-forest-requires c κs =
-    let w = c .before .before .before .before .before .before .before .before .before in
+    let w = walked (c .before .before .before) in
     let r = start w .pre .read in
-    let e = length-for r in
-    let s = read-limited _ _ r .slots in
     let p : length (w .walk .result .parent) ≡ locationsMax = search needs in
     let d : length (w .walk .result .depth) ≡ locationsMax = search needs in
-    (omega (arith, start w .pre .room), omega arith, omega arith)
+    omega (arith, fits w, length-for r, read-limited _ _ r .slots)
 
 mul-at : tie.Need-mul-at
-mul-at c = omega (arith, read-limited _ _ (start (c .before .before .before .before .before .before .before .before .before .before .before .before) .pre .read) .slots)
+mul-at c = omega (arith, read-limited _ _ (start (walked (lost (c .before .before))) .pre .read) .slots)
 
 add-at : tie.Need-add-at
-add-at c = omega (arith, read-limited _ _ (start (c .before .before .before .before .before .before .before .before .before .before .before .before) .pre .read) .slots)
+add-at c = omega (arith, read-limited _ _ (start (walked (lost (c .before .before))) .pre .read) .slots)
 
 put-sections-requires : tie.Need-put-sections-requires
 put-sections-requires c κs =
-    let w = c .before .before .before .before .before .before .before .before .before .before .before .before .before .before .before .before in
+    let f = c .before .before .before .before .before .before in
+    let w = walked (lost f) in
     let p = start w .pre in
-    record {
-      bytes = _;
-      rows = rows w;
-      slots = p .slots;
-      room = evidence-room (p .read) (start w .args .buf .now) (p .room) (c .before .before .before .before .before .before .put-forest .ensures .long);
-    }
+    record { bytes = _; rows = rows w; slots = p .planned .slots; room = evidence-room (p .read) (omega (arith, fits w, f .put-forest .ensures .long)) }
 
 cast-put-head : tie.Need-cast-put-head
 cast-put-head c = search needs
@@ -94,10 +128,10 @@ cast-put-head c = search needs
 put-head-requires : tie.Need-put-head-requires
 put-head-requires c κs =
     let k = c .before .before .before .before in
-    let f = k .before .before .before .before .before .before .before in
-    let l = f .before .before .before .before in
+    let l = lost (planted k) in
     let p = start (walked l) .pre in
-    head-fits (rows (walked l)) (sectioned k .choice) (p .counted) (served l) (omega (arith, length-for (p .read), p .room, f .put-forest .ensures .long, sectioned k .put .long))
+    head-fits (p .read) (sectioned k .choice) (p .planned .counted) (served l)
+    (omega (arith, fits (walked l), planted k .put-forest .ensures .long, sectioned k .put .long))
 
 same-length : tie.Need-same-length
 same-length c = search needs
@@ -105,11 +139,11 @@ same-length c = search needs
 returns : tie.Need-returns
 returns c =
     let k = c .before .before .before .before .before .before .before in
-    let f = k .before .before .before .before .before .before .before in
-    let l = f .before .before .before .before in
-    let p = start (walked l) .pre in
-    evidence-written (p .read) _ _ (p .room) (λ j. omega (arith, c .slice-known4 .given j)) (λ j. omega (arith, begun (walked l) .slice-known .given j))
-    (evidence-put (rows (walked l)) (f .put-forest .ensures) (sectioned k) (c .before .before .put-head .ensures) (p .counted) (served l))
+    let l = lost (planted k) in
+    let w = walked l in
+    let first = put-same (planted k .put-forest .ensures) (sym head-whole) refl in
+    evidence-written (rows w) first (sectioned k) (c .before .before .put-head .ensures) (start w .pre .planned .counted) (served l) (fits w)
+    (λ j. omega (arith, linked w .before .before .before .before .slice-known .given j)) (λ j. omega (arith, c .slice-known4 .given j))
 
 pub write-evidence-spec : {M : Type 1} → statement M
 write-evidence-spec =
