@@ -24,7 +24,7 @@ returns c = (sym (ap (λ (x : Acting). toC (actingNumbers x)) (c .enum-told .giv
 
 returns-2 : tie.Need-returns-2
 unfolding toC actingNumbers
-returns-2 c = passed-on (c .refusal .ensures .1) (c .refusal .ensures .0 ∙ refused-number _ ∙ sym (ap (λ (x : Acting). toC (actingNumbers x)) (c .before .before .a .given .1)))
+returns-2 c = passed-on (c .refusal .ensures .1) (c .refusal .ensures .0 ∙ refused-number (c .before .before .a .given .0 .0) ∙ sym (ap (λ (x : Acting). toC (actingNumbers x)) (c .before .before .a .given .1)))
 
 pub acting-number-spec : {M : Type 1} → statement M
 acting-number-spec = tie.close (tie.spec enum-told enum-known-a refusal-requires returns returns-2)

@@ -31,7 +31,7 @@ returns : tie.Need-returns
 unfolding toC choosingNumbers
 returns c =
     let k = c .before .before .before .before .before .before .choose .ensures in
-    (passed-on (c .length-number .ensures .1) (c .length-number .ensures .0 ∙ ap (λ (x : Choosing). toC (choosingNumbers x)) (sym (c .before .before .length .given .1) ∙ k .0)) .0, k .2)
+    (passed-on (c .length-number .ensures .1) (c .length-number .ensures .0 ∙ ap (λ (x : Choosing). toC (choosingNumbers x)) (sym (c .before .before .length .given .1) ∙ k .0)) .0, k .1 .1)
 
 same-length-2 : tie.Need-same-length-2
 same-length-2 c = search needs
@@ -40,7 +40,7 @@ returns-2 : tie.Need-returns-2
 unfolding toC choosingNumbers
 returns-2 c =
     let k = c .before .before .before .before .before .before .choose .ensures in
-    (passed-on (c .refusal .ensures .1) (c .refusal .ensures .0 ∙ refused-number _ ∙ ap (λ (x : Choosing). toC (choosingNumbers x)) (sym (c .before .before .number .given .1) ∙ k .0)) .0, k .2)
+    (passed-on (c .refusal .ensures .1) (c .refusal .ensures .0 ∙ refused-number (c .before .before .number .given .0 .0) ∙ ap (λ (x : Choosing). toC (choosingNumbers x)) (sym (c .before .before .number .given .1) ∙ k .0)) .0, k .1 .1)
 
 pub blockplan-choose-spec : {M : Type 1} → statement M
 blockplan-choose-spec =

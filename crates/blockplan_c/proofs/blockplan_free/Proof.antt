@@ -20,7 +20,7 @@ same-length c = search needs
 returns : tie.Need-returns
 returns c =
     let k = c .before .before .before .free .ensures in
-    (passed-on (c .acting-number .ensures .1) (c .acting-number .ensures .0 ∙ ap (λ (x : Acting). toC (actingNumbers x)) (k .0)) .0, k .3)
+    (passed-on (c .acting-number .ensures .1) (c .acting-number .ensures .0 ∙ ap (λ (x : Acting). toC (actingNumbers x)) (k .0)) .0, k .1 .1 .1)
 
 pub blockplan-free-spec : {M : Type 1} → statement M
 blockplan-free-spec = tie.close (tie.spec free-requires acting-number-requires same-length returns)

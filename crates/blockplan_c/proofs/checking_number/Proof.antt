@@ -24,7 +24,7 @@ returns c = (sym (ap (λ (x : Checking). toC (checkingNumbers x)) (c .enum-told 
 
 returns-2 : tie.Need-returns-2
 unfolding toC checkingNumbers
-returns-2 c = passed-on (c .refusal .ensures .1) (c .refusal .ensures .0 ∙ refused-number _ ∙ sym (ap (λ (x : Checking). toC (checkingNumbers x)) (c .before .before .c .given .1)))
+returns-2 c = passed-on (c .refusal .ensures .1) (c .refusal .ensures .0 ∙ refused-number (c .before .before .c .given .0 .0) ∙ sym (ap (λ (x : Checking). toC (checkingNumbers x)) (c .before .before .c .given .1)))
 
 pub checking-number-spec : {M : Type 1} → statement M
 checking-number-spec = tie.close (tie.spec enum-told enum-known-c refusal-requires returns returns-2)
