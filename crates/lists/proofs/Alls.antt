@@ -5,10 +5,10 @@ use mathlib.Core.List.{List}
 use Prim.Native.Nat.{ℕ, zero, suc, _+_, _-_, _≤_, _<_}
 use native.Mathlib.Omega.{arith}
 use native.Mathlib.Nat.{add-zero, add-suc, suc-add}
-use lib.Dec.{T}
+use lib.Dec.{T, eqb, eqb→eq}
 use lib.ListN.{length, getD}
 use Rattle.lists.specs.Lists.{range, all}
-use Rattle.lists.proofs.Tests.{all-at, is-false}
+use Rattle.lists.proofs.Tests.{all-at, is-false, eq-T}
 use Rattle.lists.proofs.Ranges.{length-range}
 use Rattle.lists.proofs.Every.{range-all as every}
 use Rattle.lists.proofs.Picks.{getD-range}
@@ -38,6 +38,9 @@ same-test true true f g = refl
 same-test true false f g = absurd (f tt)
 same-test false true f g = absurd (g tt)
 same-test false false f g = refl
+
+pub eqb-comm : (a b : ℕ) → eqb a b ≡ eqb b a
+eqb-comm a b = same-test _ _ (λ t. eq-T b a (sym (eqb→eq a b t))) (λ t. eq-T a b (sym (eqb→eq b a t)))
 
 module _ (f : ℕ → Bool) where
   pub all-more : (i k : ℕ) → all f (range i (suc k)) ≡ (all f (range i k) && f (i + k))

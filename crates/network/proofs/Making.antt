@@ -10,6 +10,7 @@ use borrow.Author.Tests.{le-leb, lt-leb, lt-ltb, le-ltb, eq-eqb, ne-eqb}
 use lib.Dec.{T, leb, ltb, eqb}
 use lib.ListN.{length, getD, take, replicate, length-replicate, getD-replicate, List·getD-eq-default}
 use Rattle.lists.proofs.Tests.{is-false}
+use Rattle.lists.proofs.Alls.{eqb-comm}
 use Rattle.lists.proofs.Prefixes.{any-take-none, any-take-more, any-take-all}
 use Rattle.rows.specs.Rows.{marked, linkedIn, With, Linked, rowWords}
 use Rattle.rows.proofs.Marks.{none-marked}
@@ -39,9 +40,6 @@ pub clear-made : (k : ℕ) → Clear k (replicate k (replicate rowWords 0))
 clear-made k = record { many = length-replicate k (replicate {A = ℕ} rowWords 0); none = clear-table k rowWords }
 
 -- ---- a table, mark by mark
-
-eqb-comm : (a b : ℕ) → eqb a b ≡ eqb b a
-eqb-comm a b = by-cases (ℕ-discrete a b) (λ e. eq-eqb a b e ∙ sym (eq-eqb b a (sym e))) (λ n. ne-eqb a b n ∙ sym (ne-eqb b a (λ e. n (sym e))))
 
 -- the link leads from x to y
 abbrev leads : ℕ → ℕ → Link → Bool
