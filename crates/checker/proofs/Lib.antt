@@ -1,2 +1,4 @@
 -- The laws of the check.
 pub mod Nodes
+pub mod Forms
+pub mod Verdicts

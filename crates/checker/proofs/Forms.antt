@@ -1,0 +1,66 @@
+-- The form of evidence: the code finds what the test says, which is what the rule says. Assumes nothing.
+use mathlib.Core.Path.{_≡_, refl, _∙_}
+use mathlib.Core.Bool.{Bool, true, false, _&&_, cond, and-assoc, and-comm}
+use mathlib.Core.List.{List, [], _∷_, _++_, append-nil}
+use Prim.Native.Nat.{ℕ, _+_, _≤_}
+use native.Mathlib.Omega.{arith}
+use native.Mathlib.Nat.{zero-add}
+use native.Mathlib.Numerals.{add-one}
+use lib.ListN.{length, getD, length-append, List·getD-append}
+use lib.Seq.{getD-append-seam}
+use Rattle.lists.specs.Lists.{range, all, filter}
+use Rattle.lists.proofs.Alls.{all-more, all-same}
+use Rattle.lists.proofs.Growing.{filter-more}
+use Rattle.picture.specs.Layout.{edition1}
+use Rattle.picture.specs.Picture.{Picture}
+use Rattle.network.specs.Words.{slotCount}
+use Rattle.network.specs.Tests.{candidates}
+use Rattle.network.specs.Rows.{blockMarked, blocksMarked}
+use Rattle.evidence.specs.Checks.{formRight}
+use Rattle.checker.specs.Form.{headTest, sectionTest, sectionsTest, formTest}
+
+-- the test of the form, by its head and its sections
+pub form-tested : (p : Picture) (ev : List ℕ) → formTest (slotCount p) ev (candidates p) ≡ formRight edition1 p ev
+unfolding formTest headTest sectionsTest sectionTest formRight
+form-tested p ev = and-comm (sectionsTest (slotCount p) ev (candidates p)) (headTest (slotCount p) ev (length (candidates p))) ∙ simp and-assoc
+
+-- ---- the loop over the blocks
+
+-- the blocks below b are looked at
+pub record Forming (n : ℕ) (ev near : List ℕ) (size : ℕ) (right : Bool) (count b : ℕ) : Type 0 where
+  pub few : count ≤ b
+  pub counted : count ≡ length (blocksMarked near size b)
+  pub tested : right ≡ sectionsTest n ev (blocksMarked near size b)
+
+module _ (n : ℕ) (ev near : List ℕ) (size : ℕ) where
+  pub forming-begun : Forming n ev near size true 0 0
+  unfolding blocksMarked sectionsTest range filter all
+  forming-begun = record { few = omega arith; counted = refl; tested = refl }
+
+  more : (b : ℕ) → blocksMarked near size (b + 1) ≡ blocksMarked near size b ++ cond (blockMarked near size b) (b ∷ []) []
+  unfolding blocksMarked
+  more b = rw (add-one b, filter-more (blockMarked near size) 0 b, zero-add b)
+
+  sections-more : (cs : List ℕ) (b : ℕ) → sectionsTest n ev (cs ++ (b ∷ [])) ≡ (sectionsTest n ev cs && sectionTest n ev (length cs) b)
+  unfolding sectionsTest
+  sections-more cs b =
+      let f : ℕ → Bool = λ i. sectionTest n ev i (getD (cs ++ (b ∷ [])) i 0) in
+      let same = all-same f (λ i. sectionTest n ev i (getD cs i 0)) 0 (length cs) (λ u l h. rw (List·getD-append cs (b ∷ []) 0 u (omega arith))) in
+      rw (length-append cs (b ∷ []), add-one (length cs), all-more f 0 (length cs), same, zero-add (length cs), getD-append-seam cs b [] 0)
+
+  module _ {right : Bool} {count b : ℕ} (f : Forming n ev near size right count b) where
+    -- the block at hand is no candidate
+    pub forming-miss : blockMarked near size b ≡ false → Forming n ev near size right count (b + 1)
+    forming-miss e =
+        let same : blocksMarked near size (b + 1) ≡ blocksMarked near size b = more b ∙ rw e (append-nil _) in
+        record { few = omega (arith, f .few); counted = rw same (f .counted); tested = rw same (f .tested) }
+
+    -- it is one, and its section is right or is not
+    pub forming-hit : {right′ : Bool} → blockMarked near size b ≡ true → right′ ≡ (right && sectionTest n ev count b) → Forming n ev near size right′ (count + 1) (b + 1)
+    forming-hit e r =
+        let longer : blocksMarked near size (b + 1) ≡ blocksMarked near size b ++ (b ∷ []) = more b ∙ rw e in
+        record {
+          few = omega (arith, f .few);
+          counted = rw (longer, length-append (blocksMarked near size b) (b ∷ []), f .counted);
+          tested = rw (r, f .tested, f .counted, longer, sections-more (blocksMarked near size b) b);
+        }

@@ -1,0 +1,122 @@
+-- `node_right` judges a node. Assumes nothing.
+use mathlib.Core.Path.{_≡_, sym, _∙_}
+use mathlib.Core.Bool.{true}
+use mathlib.Core.List.{List}
+use Prim.Native.Nat.{_≤_}
+use native.Mathlib.Omega.{arith}
+use borrow.Author.Tests.{not-true, not-false, eq-eqb, ne-eqb}
+use Rattle.rows.specs.Rows.{linkedIn}
+use Rattle.graph.specs.declared.Node.{Node}
+use Rattle.graph.specs.Kept.{nodeOf}
+use Rattle.graph.specs.Held.{heldIn}
+use Rattle.graph.proofs.Held.{slot-held}
+use Rattle.picture.specs.Layout.{edition1}
+use Rattle.evidence.specs.Checks.{forestIn}
+use Rattle.checker.proofs.Nodes.{forest-length, node-read, depth-small, slot-in, above-in, node-outside, node-not-held, node-parent-out, node-not-linked, node-depths, node-root}
+use borrow.Author.Needs.{needs}
+use Rattle.checker.proofs.forests.node_right.Statement.{statement}
+use Rattle.checker.proofs.forests.node_right.Tie as tie
+
+-- the forest, and its node that was handed in
+abbrev forest : tie.Start → List Node
+forest c = forestIn edition1 (c .args .n) (c .args .ev .now) (c .args .q)
+
+handed : (c : tie.Start) → nodeOf (forest c) (c .args .v) ≡ c .args .x
+handed c = node-read _ _ _ _ (c .pre .0 .1) (c .pre .0 .2) ∙ sym (c .pre .1)
+
+-- the slot is held, and a link leads to it from its parent
+holds : (c : tie.Else2) → let a = c .before .before .before .before .args in heldIn (a .held .now) (a .v) ≡ true
+holds c = sym (slot-held _ _ (omega (arith, c .before .before .before .before .pre .0 .1))) ∙ sym (c .before .has .ensures) ∙ not-false _ (c .if2 .left)
+
+abbrev start : tie.Else4 → tie.Start
+start c = c .before .before .before .before .before .before .before .before
+
+links : (c : tie.Else4) → linkedIn (start c .args .links .now) (start c .args .x .parent) (start c .args .v) ≡ true
+unfolding linkedIn
+links c = sym (c .before .has2 .ensures) ∙ not-false _ (c .if4 .left)
+
+-- the node of a parent that is a slot
+some : (c : tie.Else5) → 1 ≤ start (c .before) .args .x .parent
+some c = omega (arith, c .if5 .left)
+
+above : (c : tie.After-node-at) → let s = start (c .before .before) in nodeOf (forest s) (s .args .x .parent) ≡ c .node-at .result
+above c = node-read _ _ _ _ (some (c .before)) (c .before .before .before .before .before .if3 .left) ∙ sym (c .node-at .ensures)
+
+returns : tie.Need-returns
+returns c = node-outside _ _ _ _ (handed (c .before .before)) (c .if1 .taken)
+
+has-requires : tie.Need-has-requires
+has-requires c κs = search needs
+
+returns-2 : tie.Need-returns-2
+returns-2 c =
+    let s = c .before .before .before .before in
+    let out = sym (slot-held _ _ (omega (arith, s .pre .0 .1))) ∙ sym (c .before .has .ensures) ∙ not-true _ (c .if2 .taken) in
+    node-not-held _ _ _ _ (handed s) (c .before .before .if1 .left) out
+
+returns-3 : tie.Need-returns-3
+returns-3 c =
+    node-parent-out _ _ _ _ (handed (c .before .before .before .before .before)) (c .before .before .before .if1 .left)
+    (above-in _ _ (rw forest-length (c .if3 .taken)))
+
+mul-has : tie.Need-mul-has
+mul-has c = search needs
+
+index-1-has : tie.Need-index-1-has
+index-1-has c = search needs
+
+has-requires-2 : tie.Need-has-requires-2
+has-requires-2 c κs = search needs
+
+returns-4 : tie.Need-returns-4
+unfolding linkedIn
+returns-4 c =
+    let e = c .before .before .before .before .before .before in
+    node-not-linked _ _ _ _ (handed (e .before .before)) (e .if1 .left) (sym (c .before .has2 .ensures) ∙ not-true _ (c .if4 .taken))
+
+returns-5 : tie.Need-returns-5
+returns-5 c =
+    let l = c .before in
+    let e = l .before .before .before .before in
+    node-root _ _ _ _ (handed (start l)) (e .before .before .if1 .left) (holds e) (links l) (c .if5 .taken)
+
+node-at-requires : tie.Need-node-at-requires
+node-at-requires c κs = search needs
+
+returns-6 : tie.Need-returns-6
+returns-6 c =
+    let l = c .before .before .before in
+    let e = l .before .before .before .before .before .before in
+    node-parent-out _ _ _ _ (handed (start l)) (e .if1 .left)
+    (slot-in _ _ (some (c .before .before)) ∙ rw (above (c .before), eq-eqb _ _ (c .if6 .taken)))
+
+add-result : tie.Need-add-result
+add-result c =
+    let a = start (c .before .before .before) .args in
+    rw (c .before .node-at .ensures) (let d = depth-small (a .ev .now) (a .q) (a .x .parent) in omega arith)
+
+returns-7 : tie.Need-returns-7
+returns-7 c =
+    let l = c .before .before .before in
+    let e = l .before .before .before .before in
+    rw (← above (c .before))
+    (node-depths _ _ _ _ (handed (start l)) (e .before .before .if1 .left) (holds e) (links l)
+    (slot-in _ _ (some (c .before .before)) ∙ rw (above (c .before), ne-eqb _ _ (c .if6 .left))))
+
+pub node-right-spec : {M : Type 1} → statement M
+node-right-spec =
+    tie.close
+    (tie.spec
+    returns
+    has-requires
+    returns-2
+    returns-3
+    mul-has
+    index-1-has
+    has-requires-2
+    returns-4
+    returns-5
+    node-at-requires
+    returns-6
+    add-result
+    returns-7)
