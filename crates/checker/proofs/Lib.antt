@@ -2,3 +2,4 @@
 pub mod Nodes
 pub mod Forms
 pub mod Verdicts
+pub mod Following
