@@ -3,3 +3,5 @@ pub mod Nodes
 pub mod Forms
 pub mod Verdicts
 pub mod Following
+pub mod Parts
+pub mod Going

@@ -1,0 +1,96 @@
+-- The parts of evidence: what is held in them, what they are to state, and their faults. Assumes nothing.
+use mathlib.Core.Path.{_≡_, refl, sym, ap, _∙_, subst}
+use mathlib.Core.Bool.{Bool, true, false, not}
+use mathlib.Core.List.{List, [], _∷_}
+use Prim.Native.Nat.{ℕ, zero, suc, _-_, _≤_, zero-le, suc-le-suc}
+use native.Mathlib.Omega.{arith}
+use lib.Dec.{eqb·suc-zero}
+use lib.ListN.{length, getD}
+use Rattle.lists.specs.Lists.{on, first}
+use Rattle.lists.proofs.Tests.{is-false}
+use Rattle.lists.proofs.Alls.{is-true}
+use Rattle.graph.specs.declared.Node.{Node}
+use Rattle.graph.specs.Held.{heldIn}
+use Rattle.graph.specs.Kept.{ForestKept}
+use Rattle.picture.specs.Layout.{edition1}
+use Rattle.picture.specs.Picture.{Picture, pictureOf}
+use Rattle.network.specs.Words.{slotCount, isHeld, heldWithout, joins}
+use Rattle.network.specs.declared.Cost.{Cost}
+use Rattle.network.specs.Tests.{weighed, servedWeight, candidates}
+use Rattle.network.specs.Rows.{SlotRowsOf, BlockRow}
+use Rattle.network.proofs.Weights.{weighed-block}
+use Rattle.weigh.proofs.Serving.{left-held}
+use Rattle.evidence.specs.Layout.{forestAt}
+use Rattle.evidence.specs.Checks.{sectionIn, forestIn, firstForest, sectionForest, forestRight, sectionFault}
+use Rattle.evidence.specs.Rules.{Form}
+use Rattle.evidence.proofs.Forests.{right-kept, kept-right}
+use Rattle.evidence.proofs.Weighings.{weighing-at}
+use Rattle.checker.specs.Forests.{LeftIn, statedTest, partFault}
+
+-- the block that section i evicts
+abbrev pub blockAt : Picture → ℕ → ℕ
+blockAt p i = getD (candidates p) i 0
+
+-- what is held in part k, and what the part is to state
+unfoldable pub heldAt : Picture → ℕ → ℕ → Bool
+heldAt p zero = isHeld p
+heldAt p (suc i) = heldWithout p (blockAt p i)
+
+unfoldable pub costAt : Picture → ℕ → Cost
+costAt p zero = record { block = 0; loss = servedWeight p; mark = 0 }
+costAt p (suc i) = weighed p (blockAt p i)
+
+pred-suc : (i : ℕ) → suc i - 1 ≡ i
+pred-suc i = omega arith
+
+module _ (bs ev : List ℕ) {n : ℕ} (many : slotCount (pictureOf bs) ≡ n) where
+  abbrev p : Picture
+  p = pictureOf bs
+
+  -- the forest of part k
+  abbrev pub forestOf : ℕ → List Node
+  forestOf k = forestIn edition1 n ev (forestAt edition1 n k)
+
+  pub part-fault : (k : ℕ) → k ≤ length (candidates p)
+      → partFault bs ev k ≡ first (on (not (forestRight p (heldAt p k) (forestOf k))) 14 ∷ on (not (statedTest n ev k (costAt p k .loss) (costAt p k .mark))) 15 ∷ [])
+  unfolding partFault heldAt costAt statedTest sectionFault firstForest sectionForest
+  part-fault zero l = rw many
+  part-fault (suc i) l = rw (many, weighing-at p i l, weighed-block p (blockAt p i), eqb·suc-zero i, pred-suc i)
+
+  module _ (k : ℕ) (l : k ≤ length (candidates p)) where
+    -- the forest breaks a rule
+    pub part-broken : ¬ ForestKept (joins (p .links)) (heldAt p k) n (forestOf k) → 14 ≡ partFault bs ev k
+    unfolding on first
+    part-broken bad = sym (part-fault k l ∙ rw (is-false (forestRight p (heldAt p k) (forestOf k)) (λ t. bad (rw many at (right-kept p _ _ t)))))
+
+    -- it keeps them, and what is stated is wrong or right
+    module _ (kept : ForestKept (joins (p .links)) (heldAt p k) n (forestOf k)) where
+      right : forestRight p (heldAt p k) (forestOf k) ≡ true
+      right = is-true _ (kept-right p (heldAt p k) (forestOf k) (rw many kept))
+
+      pub part-wrong : statedTest n ev k (costAt p k .loss) (costAt p k .mark) ≡ false → 15 ≡ partFault bs ev k
+      unfolding on first
+      part-wrong s = sym (part-fault k l ∙ rw (right, s))
+
+      pub part-right : statedTest n ev k (costAt p k .loss) (costAt p k .mark) ≡ true → partFault bs ev k ≡ 0
+      unfolding on first
+      part-right s = part-fault k l ∙ rw (right, s)
+
+  -- ---- what the code finds of part k
+
+  module _ (form : Form edition1 p ev) where
+    pub formed-block : (i : ℕ) → suc i ≤ length (candidates p) → sectionIn edition1 n ev i .block ≡ blockAt p i
+    formed-block i l = rw (← many) (form .blocks i l)
+
+    pub held-found : {row near : List ℕ} → SlotRowsOf p row near → (k : ℕ) → k ≤ length (candidates p) → {left : List ℕ}
+        → LeftIn row (p .blockSize) (sectionIn edition1 n ev (k - 1) .block) k left → (v : ℕ) → heldIn left v ≡ heldAt p k v
+    unfolding heldAt
+    held-found s zero l h v = ap (λ (r : List ℕ). heldIn r v) (h .whole refl) ∙ s .held v
+    held-found s (suc i) l h v =
+        let k = h .less (suc-le-suc zero-le) in
+        left-held p (blockAt p i) _ _ (k .0) _ s (rw (pred-suc i, formed-block i l) at (k .1)) (k .2) v
+
+  pub stated-found : (k : ℕ) {w m : ℕ} → w ≡ costAt p k .loss → (1 ≤ k → m ≡ costAt p k .mark) → statedTest n ev k w m ≡ statedTest n ev k (costAt p k .loss) (costAt p k .mark)
+  unfolding statedTest
+  stated-found zero e f = rw e
+  stated-found (suc i) e f = rw (e, f (suc-le-suc zero-le))
