@@ -78,27 +78,27 @@ module _ {table : List (List ℕ)} {inner outer : List ℕ} where
 
 -- ---- the forest, whose slots were followed to the end
 
-module _ {table : List (List ℕ)} {left : List ℕ} {es : List Node} {n : ℕ} (len : length es ≡ n) {slots inner outer : List ℕ} (w : With slots 0 inner) (m : Minus left inner outer)
-    (f : Followed table left es slots (n + 1)) where
+module _ {table : List (List ℕ)} {left : List ℕ} {es : List Node} {n v : ℕ} (len : length es ≡ n) {slots inner outer : List ℕ} (w : With slots 0 inner) (m : Minus left inner outer)
+    (f : Followed table left es slots v) (ended : n < v) where
   -- the marks are what is in the forest
-  pub inner-in : (v : ℕ) → marked inner v ≡ isIn es v
+  pub inner-in : (u : ℕ) → marked inner u ≡ isIn es u
   unfolding isIn
-  inner-in v =
-      let all = scanned-all (deep es) slots (n + 1) (f .scanned) (λ u t. let s = deep-slot es u (λ z. T-not (eqb (nodeOf es u .depth) 0) t (rw z tt)) in (s .0, omega (arith, s .1))) in
-      w .marks v ∙ rw (all v) (or-comm (deep es v) (eqb v 0))
+  inner-in u =
+      let all = scanned-all (deep es) slots v (f .scanned) (λ u t. let s = deep-slot es u (λ z. T-not (eqb (nodeOf es u .depth) 0) t (rw z tt)) in (s .0, omega (arith, s .1))) in
+      w .marks u ∙ rw (all u) (or-comm (deep es u) (eqb u 0))
 
   -- and the other marks are what is held and not in it
-  outer-out : (v : ℕ) → T (marked outer v) → T (heldIn left v) × ¬ In es v
+  outer-out : (u : ℕ) → T (marked outer u) → T (heldIn left u) × ¬ In es u
   unfolding heldIn
-  outer-out v s =
-      let r = and-T (marked left v) (not (marked inner v)) (subst T (m .marks v) s) in
-      (T-or-r (eqb v 0) (marked left v) (r .0), λ i. T-not (marked inner v) (r .1) (subst T (sym (inner-in v)) (in-test es v i)))
+  outer-out u s =
+      let r = and-T (marked left u) (not (marked inner u)) (subst T (m .marks u) s) in
+      (T-or-r (eqb u 0) (marked left u) (r .0), λ i. T-not (marked inner u) (r .1) (subst T (sym (inner-in u)) (in-test es u i)))
 
-  out-outer : (v : ℕ) → T (heldIn left v) → ¬ In es v → T (marked outer v)
+  out-outer : (u : ℕ) → T (heldIn left u) → ¬ In es u → T (marked outer u)
   unfolding heldIn
-  out-outer v s o =
-      let l = ⊎-elim (λ z. absurd (o (inl (eqb→eq v 0 z)))) (λ t. t) (or-T (eqb v 0) (marked left v) s) in
-      subst T (sym (m .marks v)) (T-and (marked left v) (not (marked inner v)) l (not-T (marked inner v) (λ q. o (test-in es v (subst T (inner-in v) q)))))
+  out-outer u s o =
+      let l = ⊎-elim (λ z. absurd (o (inl (eqb→eq u 0 z)))) (λ t. t) (or-T (eqb u 0) (marked left u) s) in
+      subst T (sym (m .marks u)) (T-and (marked left u) (not (marked inner u)) l (not-T (marked inner u) (λ q. o (test-in es u (subst T (inner-in u) q)))))
 
   -- a link leads out of the forest
   pub link-broken : (a : ℕ) → T (marked inner a) → Meet (getD table a []) outer true → ¬ ForestKept (linkedIn table) (heldIn left) n es
@@ -110,10 +110,10 @@ module _ {table : List (List ℕ)} {left : List ℕ} {es : List Node} {n : ℕ} 
       q .closed a b (k .common tt .1) (test-in es a (subst T (inner-in a) i)) (omega arith) (by-cases (ℕ-discrete (nodeOf es b .depth) 0) (λ z. z) (λ d. absurd (o .1 (inr d)))) (o .0)
 
   -- none does
-  pub forest-kept : ((a b : ℕ) → T (linkedIn table a b) → a ≤ n) → Closed table inner outer (n + 1) → ForestKept (linkedIn table) (heldIn left) n es
-  forest-kept low c =
+  pub forest-kept : ((a b : ℕ) → T (linkedIn table a b) → a ≤ n) → {a : ℕ} → Closed table inner outer a → n < a → ForestKept (linkedIn table) (heldIn left) n es
+  forest-kept low c g =
       record {
-        nodes = λ v l h. right-node (linkedIn table) (heldIn left) es v (rw (f .right v l (omega arith)) tt);
+        nodes = λ u l h. right-node (linkedIn table) (heldIn left) es u (rw (f .right u l (omega arith)) tt);
         closed = λ a b j i l z h.
             c .shut a (omega (arith, low a b j)) (subst T (sym (inner-in a)) (in-test es a i)) b j (out-outer b h (⊎-elim (λ o. absurd (omega arith)) (λ d. d z)));
       }
