@@ -5,3 +5,5 @@ pub mod Verdicts
 pub mod Following
 pub mod Parts
 pub mod Going
+pub mod Answering
+pub mod Showing

@@ -1,0 +1,121 @@
+-- The first fault of evidence is that of its form, of its parts or of its verdict, and what check answers. Assumes nothing.
+use mathlib.Core.Path.{_≡_, refl, sym, ap, _∙_}
+use mathlib.Core.Bool.{true, false, not, Bool·not-not}
+use mathlib.Core.Logic.{_≢_}
+use mathlib.Core.List.{List, [], _∷_, _++_, map}
+use Prim.Native.Nat.{ℕ, zero, suc, _≤_, _<_}
+use native.Mathlib.Omega.{arith}
+use lib.Dec.{T, eqb}
+use lib.ListN.{length, getD}
+use Rattle.lists.specs.Lists.{range, on, first, outcome}
+use Rattle.lists.proofs.Ranges.{length-range, map-shift, range-made}
+use Rattle.lists.proofs.Faults.{on-zero, first-zero, first-in, stop-at, first-map-none}
+use Rattle.picture.specs.Layout.{edition1}
+use Rattle.picture.specs.Picture.{Picture, pictureOf}
+use Rattle.picture.specs.Faults.{pictureFault}
+use Rattle.network.specs.Words.{slotCount, isHeld}
+use Rattle.network.specs.declared.Cost.{Cost}
+use Rattle.network.specs.Tests.{servedWeight, candidates}
+use Rattle.network.proofs.Weights.{weighed-block}
+use Rattle.evidence.specs.Canonical.{noCost, weighings}
+use Rattle.evidence.specs.Checks.{headIn, sectionIn, firstForest, forestRight, formRight, sectionFault, verdictRight, checkFault}
+use Rattle.evidence.proofs.Judging.{numbersTest, test-numbers, right-form}
+use Rattle.evidence.proofs.Weighings.{weighings-length, weighing-at}
+use Rattle.checker.specs.declared.Checking.{Checking}
+use Rattle.checker.specs.declared.Checking.the-variants.{Passed, Refused}
+use Rattle.checker.specs.Answers.{checkingOf, checking, checkingNumbers}
+use Rattle.checker.specs.Forests.{partFault, partsFault}
+use Rattle.checker.specs.Verdict.{stated}
+use Rattle.checker.proofs.Going.{parts, part-of}
+
+-- ---- the faults, part by part
+
+module _ (bs ev : List ℕ) where
+  abbrev p : Picture
+  p = pictureOf bs
+
+  -- what is left after the parts
+  abbrev rest : List ℕ
+  rest = on (not (verdictRight ev (weighings p))) 16 ∷ []
+
+  check-parts : checkFault bs ev ≡ first (pictureFault bs ∷ on (not (formRight edition1 p ev)) 13 ∷ partsFault bs ev ∷ rest)
+  unfolding checkFault partsFault partFault range
+  check-parts =
+      let a : List ℕ = on (not (forestRight p (isHeld p) (firstForest edition1 (slotCount p) ev))) 14 ∷ on (not (eqb (headIn ev .served) (servedWeight p))) 15 ∷ [] in
+      let k : List ℕ = pictureFault bs ∷ on (not (formRight edition1 p ev)) 13 ∷ [] in
+      let m : List ℕ = map (partFault bs ev) (range 1 (length (candidates p))) in
+      let same : map (sectionFault edition1 p ev (weighings p)) (range 0 (length (weighings p))) ≡ m = rw weighings-length (sym (map-shift (partFault bs ev) 0 (length (candidates p)))) in
+      rw same (first-in (k ++ a) m rest ∙ sym (first-in k (first a ∷ m) rest ∙ first-in k a (m ++ rest)))
+
+  -- the picture has a fault
+  pub check-picture : {k : ℕ} → (pictureFault bs ≡ k) × (k ≢ 0) → k ≡ checkFault bs ev
+  check-picture e = stop-at _ (e .1) (sym (e .0)) ∙ sym check-parts
+
+  module _ (accepted : pictureFault bs ≡ 0) where
+    -- the form is wrong
+    pub check-form : formRight edition1 p ev ≡ false → 13 ≡ checkFault bs ev
+    unfolding on first
+    check-form f = sym (check-parts ∙ rw (accepted, f))
+
+    module _ (f : formRight edition1 p ev ≡ true) where
+      -- a part has a fault
+      pub check-part : {k : ℕ} → k ≢ 0 → k ≡ partsFault bs ev → k ≡ checkFault bs ev
+      unfolding on first
+      check-part n e = stop-at rest n e ∙ sym (check-parts ∙ rw (accepted, f))
+
+      module _ (none : 0 ≡ partsFault bs ev) where
+        -- what the sections state is what the candidates weigh
+        section-right : (i : ℕ) → i < length (weighings p) → sectionIn edition1 (slotCount p) ev i ≡ getD (weighings p) i noCost
+        unfolding partFault partsFault sectionFault numbersTest
+        section-right i h =
+            let l : i < length (candidates p) = rw weighings-length at h in
+            let z = ap (partFault bs ev) (sym (part-of bs (suc i) l)) ∙ first-map-none (partFault bs ev) 0 (parts bs) (sym none) (suc i) (rw length-range (omega arith)) in
+            let w = getD (weighings p) i noCost in
+            let s = test-numbers edition1 p ev i w (rw Bool·not-not at (on-zero (not (numbersTest edition1 p ev i w)) 14 (first-zero _ z 1))) in
+            let b = right-form edition1 p ev (rw f tt) .blocks i l ∙ sym (ap (λ (c : Cost). c .block) (weighing-at p i l) ∙ weighed-block p (getD (candidates p) i 0)) in
+            λ j. record { block = b j; loss = s .0 j; mark = s .1 j }
+
+        pub stated-weighings : {n count : ℕ} → slotCount p ≡ n → count ≡ length (candidates p) → stated n ev count ≡ weighings p
+        unfolding stated
+        stated-weighings many counted = rw (← many, counted, ← weighings-length p) (range-made noCost (sectionIn edition1 (slotCount p) ev) (weighings p) section-right)
+
+        -- the verdict is wrong, or nothing is
+        pub check-verdict : verdictRight ev (weighings p) ≡ false → 16 ≡ checkFault bs ev
+        unfolding on first
+        check-verdict v = sym (check-parts ∙ rw (accepted, f, ← none, v))
+
+        pub check-none : verdictRight ev (weighings p) ≡ true → 0 ≡ checkFault bs ev
+        unfolding on first
+        check-none v = sym (check-parts ∙ rw (accepted, f, ← none, v))
+
+-- ---- the answer
+
+module _ (bs ev : List ℕ) where
+  -- its numbers, and that no refusal is numbered 0
+  checking-numbers : checkingNumbers (checking bs ev) ≡ outcome (checkFault bs ev) []
+  unfolding checkingNumbers checking checkingOf outcome
+  checking-numbers = go (checkFault bs ev)
+    where
+      go : (k : ℕ) → checkingNumbers (checkingOf k) ≡ outcome k []
+      go zero = refl
+      go (suc k) = refl
+
+  checking-refusals : checking bs ev ≢ Refused 0
+  unfolding checking checkingOf
+  checking-refusals = go (checkFault bs ev)
+    where
+      go : (k : ℕ) → checkingOf k ≢ Refused 0
+      go zero e = let z : _≡_ {A = ℕ} 0 1 = cc in omega arith
+      go (suc k) e = let z : suc k ≡ 0 = cc in omega arith
+
+  told : {r : Checking} → r ≡ checking bs ev → (r ≡ checking bs ev) × ((checkingNumbers r ≡ outcome (checkFault bs ev) []) × (r ≢ Refused 0))
+  told e = (e, (ap checkingNumbers e ∙ checking-numbers, λ z. checking-refusals (sym e ∙ z)))
+
+  pub told-passed : {k : ℕ} → k ≡ 0 → k ≡ checkFault bs ev → (Passed ≡ checking bs ev) × ((checkingNumbers Passed ≡ outcome (checkFault bs ev) []) × (Passed ≢ Refused 0))
+  unfolding checking checkingOf
+  told-passed z e = told (ap checkingOf (sym z ∙ e))
+
+  pub told-refused : (k : ℕ) → k ≢ 0 → k ≡ checkFault bs ev → (Refused k ≡ checking bs ev) × ((checkingNumbers (Refused k) ≡ outcome (checkFault bs ev) []) × (Refused k ≢ Refused 0))
+  unfolding checking checkingOf
+  told-refused zero n e = absurd (n refl)
+  told-refused (suc k) n e = told (ap checkingOf e)

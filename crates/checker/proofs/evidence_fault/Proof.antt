@@ -1,0 +1,107 @@
+-- `evidence_fault` judges the form, the parts and the verdict, in this order. Assumes nothing.
+use mathlib.Core.Path.{_≡_, sym, ap, _∙_}
+use mathlib.Core.Bool.{true}
+use mathlib.Core.List.{List}
+use Prim.Native.Nat.{ℕ}
+use native.Mathlib.Omega.{arith}
+use native.Mathlib.Nat.{div-mul-le-self}
+use borrow.Author.Tests.{not-true, not-false}
+use lib.ListN.{length}
+use Rattle.picture.specs.Layout.{edition1}
+use Rattle.picture.specs.Picture.{Picture, pictureOf}
+use Rattle.picture.proofs.Facts.{read-sizes}
+use Rattle.network.specs.Tests.{candidates}
+use Rattle.network.proofs.Candidates.{marked-candidates}
+use Rattle.weigh.proofs.Blocks.{read-slots, read-block-size, read-blocks}
+use Rattle.evidence.specs.Canonical.{weighings}
+use Rattle.evidence.specs.Checks.{formRight, verdictRight}
+use Rattle.evidence.proofs.Fields.{candidates-few}
+use Rattle.checker.proofs.Forms.{form-tested}
+use Rattle.checker.proofs.Answering.{check-form, check-part, check-verdict, check-none, stated-weighings}
+use borrow.Author.Needs.{needs}
+use Rattle.checker.proofs.evidence_fault.Statement.{statement}
+use Rattle.checker.proofs.evidence_fault.Tie as tie
+
+-- the picture and the evidence
+abbrev start : tie.After-form-of → tie.Start
+start c = c .before .before .before .before .before .before
+
+abbrev shown : tie.After-form-of → Picture
+shown c = pictureOf (start c .args .s .now)
+
+abbrev evidence : tie.After-form-of → List ℕ
+evidence c = start c .args .ev .now
+
+-- the blocks that were found are the candidates, and the test of the form was made for them
+found : (c : tie.After-form-of) → let r = c .form-of .result in (r .right ≡ formRight edition1 (shown c) (evidence c)) × (r .count ≡ length (candidates (shown c)))
+found c =
+    let r = start c .pre in
+    let e = marked-candidates (c .before .before .before .slot-rows .ensures) (read-block-size _ _ r) (sym (read-blocks _ _ r)) in
+    let f = rw (e, ← read-slots _ _ r) at (c .form-of .ensures) in
+    (f .0 ∙ form-tested (shown c) (evidence c), f .1)
+
+formed : (c : tie.Else1) → formRight edition1 (shown (c .before)) (evidence (c .before)) ≡ true
+formed c = sym (found (c .before) .0) ∙ not-false _ (c .if1 .left)
+
+-- no part has a fault, so the sections state what the candidates weigh
+judged : (c : tie.After-verdict-right) → let f = c .before .before .before .before in c .verdict-right .result ≡ verdictRight (evidence f) (weighings (shown f))
+judged c =
+    let n = c .before in
+    let f = n .before .before .before in
+    let r = start f .pre in
+    c .verdict-right .ensures
+    ∙ ap (verdictRight (evidence f)) (stated-weighings _ _ (r .accepted) (formed (n .before .before)) (sym (n .if2 .left) ∙ n .before .parts-fault .ensures) (read-slots _ _ r) (found f .1))
+
+slot-rows-requires : tie.Need-slot-rows-requires
+slot-rows-requires c κs = search needs
+
+div-form-of : tie.Need-div-form-of
+div-form-of c = omega (arith, read-sizes _ _ (c .before .before .before .before .before .pre) .size-some)
+
+form-of-requires : tie.Need-form-of-requires
+form-of-requires c κs =
+    let z = read-sizes _ _ (c .before .before .before .before .before .pre) in
+    (z .slots-most, z .blocks-most, div-mul-le-self _ _)
+
+returns : tie.Need-returns
+returns c = check-form _ _ (start (c .before) .pre .accepted) (sym (found (c .before) .0) ∙ not-true _ (c .if1 .taken))
+
+parts-fault-requires : tie.Need-parts-fault-requires
+parts-fault-requires c κs =
+    let s = c .before .before .before .before .slot-rows in
+    (start (c .before) .pre, (s .result .near, s .ensures), formed c, found (c .before) .1)
+
+returns-2 : tie.Need-returns-2
+returns-2 c = let e = c .before .before in check-part _ _ (start (e .before) .pre .accepted) (formed e) (c .if2 .taken) (c .before .parts-fault .ensures)
+
+verdict-right-requires : tie.Need-verdict-right-requires
+verdict-right-requires c κs =
+    let f = c .before .before .before in
+    let r = start f .pre in
+    (read-sizes _ _ r .slots-most, omega (arith, found f .1, candidates-few _ (r .accepted)))
+
+returns-3 : tie.Need-returns-3
+returns-3 c =
+    let n = c .before .before in
+    let e = n .before .before in
+    check-none _ _ (start (e .before) .pre .accepted) (formed e) (sym (n .if2 .left) ∙ n .before .parts-fault .ensures) (sym (judged (c .before)) ∙ c .if3 .taken)
+
+returns-4 : tie.Need-returns-4
+returns-4 c =
+    let n = c .before .before in
+    let e = n .before .before in
+    check-verdict _ _ (start (e .before) .pre .accepted) (formed e) (sym (n .if2 .left) ∙ n .before .parts-fault .ensures) (sym (judged (c .before)) ∙ c .if3 .left)
+
+pub evidence-fault-spec : {M : Type 1} → statement M
+evidence-fault-spec =
+    tie.close
+    (tie.spec
+    slot-rows-requires
+    div-form-of
+    form-of-requires
+    returns
+    parts-fault-requires
+    returns-2
+    verdict-right-requires
+    returns-3
+    returns-4)
