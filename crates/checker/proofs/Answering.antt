@@ -1,155 +1,121 @@
 -- The first fault of evidence is that of its form, of its parts or of its verdict, and what check answers. Assumes nothing.
-use mathlib.Core.Path.{_≡_, refl, sym, ap, ap₂, _∙_}
-use mathlib.Core.Bool.{Bool, true, false, not}
+use mathlib.Core.Path.{_≡_, refl, sym, ap, _∙_}
+use mathlib.Core.Bool.{true, false, not, Bool·not-not}
 use mathlib.Core.Logic.{_≢_}
 use mathlib.Core.List.{List, [], _∷_, _++_, map}
 use Prim.Native.Nat.{ℕ, zero, suc, _≤_, _<_}
 use native.Mathlib.Omega.{arith}
-use lib.Dec.{T, eqb, eqb→eq}
-use lib.ListN.{length, length-map}
-use lib.Seq.{ext-getD}
+use lib.Dec.{T, eqb}
+use lib.ListN.{length, getD}
 use Rattle.lists.specs.Lists.{range, on, first, outcome}
-use Rattle.lists.proofs.Tests.{and-T}
-use Rattle.lists.proofs.Ranges.{length-range}
-use Rattle.lists.proofs.Faults.{on-zero, first-zero, stop-at, skip-at, end-at, first-map-none}
+use Rattle.lists.proofs.Ranges.{length-range, map-shift, range-made}
+use Rattle.lists.proofs.Faults.{on-zero, first-zero, first-in, stop-at, first-map-none}
 use Rattle.picture.specs.Layout.{edition1}
-use Rattle.picture.specs.Picture.{pictureOf}
+use Rattle.picture.specs.Picture.{Picture, pictureOf}
 use Rattle.picture.specs.Faults.{pictureFault}
 use Rattle.network.specs.Words.{slotCount, isHeld}
-use Rattle.network.specs.Tests.{weighed, servedWeight, candidates}
+use Rattle.network.specs.declared.Cost.{Cost}
+use Rattle.network.specs.Tests.{servedWeight, candidates}
 use Rattle.network.proofs.Weights.{weighed-block}
-use Rattle.evidence.specs.Canonical.{weighings}
+use Rattle.evidence.specs.Canonical.{noCost, weighings}
 use Rattle.evidence.specs.Checks.{headIn, sectionIn, firstForest, forestRight, formRight, sectionFault, verdictRight, checkFault}
+use Rattle.evidence.proofs.Judging.{numbersTest, test-numbers, right-form}
+use Rattle.evidence.proofs.Weighings.{weighings-length, weighing-at}
+use Rattle.checker.specs.declared.Checking.{Checking}
 use Rattle.checker.specs.declared.Checking.the-variants.{Passed, Refused}
 use Rattle.checker.specs.Answers.{checkingOf, checking, checkingNumbers}
-use Rattle.checker.specs.Following.{partFault, partsFault}
-use Rattle.checker.specs.Forming.{statedIn, stated}
-use Rattle.checker.proofs.Forms.{right-form}
-use Rattle.checker.proofs.Parts.{blockAt, statedRight, part-fault, weighed-at}
-use Rattle.checker.proofs.Verdicts.{stated-length, stated-at}
-use Rattle.checker.proofs.Going.{part-of, parts}
-
--- ---- first numbers of joined lists
-
-first-join : (l m : List ℕ) → first (first l ∷ m) ≡ first (l ++ m)
-unfolding first
-first-join [] m = refl
-first-join (zero ∷ l) m = first-join l m
-first-join (suc x ∷ l) m = refl
-
-first-after : (x : ℕ) (l m : List ℕ) → first l ≡ first m → first (x ∷ l) ≡ first (x ∷ m)
-unfolding first
-first-after zero l m e = e
-first-after (suc x) l m e = refl
-
-pub map-shift : (f g : ℕ → ℕ) → ((i : ℕ) → f (suc i) ≡ g i) → (i k : ℕ) → map f (range (suc i) k) ≡ map g (range i k)
-unfolding range
-map-shift f g h i zero = refl
-map-shift f g h i (suc k) = ap₂ (λ (x : ℕ) (l : List ℕ). x ∷ l) (h i) (map-shift f g h (suc i) k)
-
-pub twice : (b : Bool) → T (not (not b)) → T b
-twice true t = t
-twice false t = t
+use Rattle.checker.specs.Forests.{partFault, partsFault}
+use Rattle.checker.specs.Verdict.{stated}
+use Rattle.checker.proofs.Going.{parts, part-of}
 
 -- ---- the faults, part by part
 
 module _ (bs ev : List ℕ) where
-  -- what is left after the form
-  rest : List ℕ
-  rest = on (not (verdictRight ev (weighings (pictureOf bs)))) 16 ∷ []
+  abbrev p : Picture
+  p = pictureOf bs
 
-  pub weighings-length : length (weighings (pictureOf bs)) ≡ length (candidates (pictureOf bs))
-  unfolding weighings
-  weighings-length = length-map (candidates (pictureOf bs)) (weighed (pictureOf bs))
+  -- what is left after the parts
+  abbrev rest : List ℕ
+  rest = on (not (verdictRight ev (weighings p))) 16 ∷ []
 
-  pub check-parts : checkFault bs ev ≡ first (pictureFault bs ∷ on (not (formRight edition1 (pictureOf bs) ev)) 13 ∷ partsFault bs ev ∷ on (not (verdictRight ev (weighings (pictureOf bs)))) 16 ∷ [])
-  unfolding checkFault partsFault partFault rest range
+  check-parts : checkFault bs ev ≡ first (pictureFault bs ∷ on (not (formRight edition1 p ev)) 13 ∷ partsFault bs ev ∷ rest)
+  unfolding checkFault partsFault partFault range
   check-parts =
-      let p = pictureOf bs in
-      let a : ℕ = on (not (forestRight p (isHeld p) (firstForest edition1 (slotCount p) ev))) 14 in
-      let b : ℕ = on (not (eqb (headIn ev .served) (servedWeight p))) 15 in
-      let s : List ℕ = map (sectionFault edition1 p ev (weighings p)) (range 0 (length (candidates p))) in
-      let same : map (partFault bs ev) (range 1 (length (candidates p))) ≡ s = map-shift (partFault bs ev) (sectionFault edition1 p ev (weighings p)) (λ i. refl) 0 (length (candidates p)) in
+      let a : List ℕ = on (not (forestRight p (isHeld p) (firstForest edition1 (slotCount p) ev))) 14 ∷ on (not (eqb (headIn ev .served) (servedWeight p))) 15 ∷ [] in
+      let k : List ℕ = pictureFault bs ∷ on (not (formRight edition1 p ev)) 13 ∷ [] in
       let m : List ℕ = map (partFault bs ev) (range 1 (length (candidates p))) in
-      first-after (pictureFault bs) _ _
-      (first-after (on (not (formRight edition1 p ev)) 13) _ _
-      (first-after a _ _ (first-after b _ _ (first-join (map (sectionFault edition1 p ev (weighings p)) (range 0 (length (weighings p)))) rest))
-      ∙ ap (λ (l : List ℕ). first (a ∷ b ∷ (l ++ rest))) (ap (λ (k : ℕ). map (sectionFault edition1 p ev (weighings p)) (range 0 k)) weighings-length ∙ sym same)
-      ∙ sym (first-join (first (a ∷ b ∷ []) ∷ m) rest ∙ first-join (a ∷ b ∷ []) (m ++ rest))))
+      let same : map (sectionFault edition1 p ev (weighings p)) (range 0 (length (weighings p))) ≡ m = rw weighings-length (sym (map-shift (partFault bs ev) 0 (length (candidates p)))) in
+      rw same (first-in (k ++ a) m rest ∙ sym (first-in k (first a ∷ m) rest ∙ first-in k a (m ++ rest)))
 
   -- the picture has a fault
-  pub check-picture : (k : ℕ) → k ≢ 0 → pictureFault bs ≡ k → k ≡ checkFault bs ev
-  check-picture k n e = stop-at _ n (sym e) ∙ sym check-parts
+  pub check-picture : {k : ℕ} → (pictureFault bs ≡ k) × (k ≢ 0) → k ≡ checkFault bs ev
+  check-picture e = stop-at _ (e .1) (sym (e .0)) ∙ sym check-parts
 
   module _ (accepted : pictureFault bs ≡ 0) where
     -- the form is wrong
-    pub check-form : formRight edition1 (pictureOf bs) ev ≡ false → 13 ≡ checkFault bs ev
-    unfolding on
-    check-form f = skip-at {x = 0} _ refl (sym accepted) (stop-at {x = 13} _ (λ z. absurd (omega arith)) (sym (ap (λ (b : Bool). on (not b) 13) f))) ∙ sym check-parts
+    pub check-form : formRight edition1 p ev ≡ false → 13 ≡ checkFault bs ev
+    unfolding on first
+    check-form f = sym (check-parts ∙ rw (accepted, f))
 
-    module _ (f : formRight edition1 (pictureOf bs) ev ≡ true) where
-      past : {z : ℕ} → z ≡ first (partsFault bs ev ∷ rest) → z ≡ checkFault bs ev
-      unfolding on rest
-      past e = skip-at {x = 0} _ refl (sym accepted) (skip-at {x = 0} _ refl (sym (ap (λ (b : Bool). on (not b) 13) f)) e) ∙ sym check-parts
-
+    module _ (f : formRight edition1 p ev ≡ true) where
       -- a part has a fault
-      pub check-part : (k : ℕ) → k ≢ 0 → k ≡ partsFault bs ev → k ≡ checkFault bs ev
-      check-part k n e = past (stop-at _ n e)
+      pub check-part : {k : ℕ} → k ≢ 0 → k ≡ partsFault bs ev → k ≡ checkFault bs ev
+      unfolding on first
+      check-part n e = stop-at rest n e ∙ sym (check-parts ∙ rw (accepted, f))
 
       module _ (none : 0 ≡ partsFault bs ev) where
         -- what the sections state is what the candidates weigh
-        section-right : (i : ℕ) → i < length (candidates (pictureOf bs)) → statedIn (slotCount (pictureOf bs)) ev i ≡ weighed (pictureOf bs) (blockAt bs ev i)
-        unfolding statedIn statedRight blockAt
-        section-right i l =
-            let k : suc i ≤ length (candidates (pictureOf bs)) = l in
-            let z : partFault bs ev (suc i) ≡ 0 =
-            ap (partFault bs ev) (sym (part-of bs (suc i) k)) ∙ first-map-none (partFault bs ev) 0 (parts bs) (unfold partsFault in sym none) (suc i) (omega (arith, length-range 0 (suc (length (candidates (pictureOf bs)))), k)) in
-            let s : T (statedRight bs ev (suc i)) = twice (statedRight bs ev (suc i)) (on-zero (not (statedRight bs ev (suc i))) 14 (first-zero _ (sym (part-fault bs ev (suc i) k) ∙ z) 1)) in
-            let w = weighed (pictureOf bs) (blockAt bs ev i) in
-            let n = slotCount (pictureOf bs) in
-            let r = and-T (eqb (sectionIn edition1 n ev i .loss) (w .loss)) (eqb (sectionIn edition1 n ev i .mark) (w .mark)) s in
-            let b = right-form edition1 (pictureOf bs) ev f .blocks i l ∙ sym (weighed-block (pictureOf bs) (blockAt bs ev i)) in
-            let x = eqb→eq (sectionIn edition1 n ev i .loss) (w .loss) (r .0) in
-            let m = eqb→eq (sectionIn edition1 n ev i .mark) (w .mark) (r .1) in
-            λ j. record { block = b j; loss = x j; mark = m j }
+        section-right : (i : ℕ) → i < length (weighings p) → sectionIn edition1 (slotCount p) ev i ≡ getD (weighings p) i noCost
+        unfolding partFault partsFault sectionFault numbersTest
+        section-right i h =
+            let l : i < length (candidates p) = rw weighings-length at h in
+            let z = ap (partFault bs ev) (sym (part-of bs (suc i) l)) ∙ first-map-none (partFault bs ev) 0 (parts bs) (sym none) (suc i) (rw length-range (omega arith)) in
+            let w = getD (weighings p) i noCost in
+            let s = test-numbers edition1 p ev i w (rw Bool·not-not at (on-zero (not (numbersTest edition1 p ev i w)) 14 (first-zero _ z 1))) in
+            let b = right-form edition1 p ev (rw f tt) .blocks i l ∙ sym (ap (λ (c : Cost). c .block) (weighing-at p i l) ∙ weighed-block p (getD (candidates p) i 0)) in
+            λ j. record { block = b j; loss = s .0 j; mark = s .1 j }
 
-        pub stated-weighings : (n count : ℕ) → n ≡ slotCount (pictureOf bs) → count ≡ length (candidates (pictureOf bs)) → stated n ev count ≡ weighings (pictureOf bs)
-        unfolding weighings blockAt
-        stated-weighings n count e q =
-            let p = pictureOf bs in
-            let d = statedIn (slotCount p) ev 0 in
-            ap₂ (λ (x y : ℕ). stated x ev y) e q
-            ∙ ext-getD d (stated (slotCount p) ev (length (candidates p))) (weighings p) (stated-length (slotCount p) ev (length (candidates p)) ∙ sym weighings-length)
-            (λ i l.
-            let s : i < length (candidates p) = rw stated-length at l in
-            stated-at (slotCount p) ev (length (candidates p)) i s ∙ section-right i s ∙ sym (weighed-at p d (candidates p) i s))
+        pub stated-weighings : {n count : ℕ} → slotCount p ≡ n → count ≡ length (candidates p) → stated n ev count ≡ weighings p
+        unfolding stated
+        stated-weighings many counted = rw (← many, counted, ← weighings-length p) (range-made noCost (sectionIn edition1 (slotCount p) ev) (weighings p) section-right)
 
         -- the verdict is wrong, or nothing is
-        pub check-verdict : verdictRight ev (weighings (pictureOf bs)) ≡ false → 16 ≡ checkFault bs ev
-        unfolding on rest
-        check-verdict v = past (skip-at {x = 0} _ refl none (stop-at {x = 16} _ (λ z. absurd (omega arith)) (sym (ap (λ (b : Bool). on (not b) 16) v))))
+        pub check-verdict : verdictRight ev (weighings p) ≡ false → 16 ≡ checkFault bs ev
+        unfolding on first
+        check-verdict v = sym (check-parts ∙ rw (accepted, f, ← none, v))
 
-        pub check-none : verdictRight ev (weighings (pictureOf bs)) ≡ true → 0 ≡ checkFault bs ev
-        unfolding on rest
-        check-none v = past (skip-at {x = 0} _ refl none (skip-at {x = 0} _ refl (sym (ap (λ (b : Bool). on (not b) 16) v)) end-at))
+        pub check-none : verdictRight ev (weighings p) ≡ true → 0 ≡ checkFault bs ev
+        unfolding on first
+        check-none v = sym (check-parts ∙ rw (accepted, f, ← none, v))
 
 -- ---- the answer
 
-pub told-passed : (bs ev : List ℕ) {k : ℕ} → k ≡ 0 → k ≡ checkFault bs ev → Passed ≡ checking bs ev
-unfolding checking checkingOf
-told-passed bs ev z e = ap checkingOf (sym z ∙ e)
+module _ (bs ev : List ℕ) where
+  -- its numbers, and that no refusal is numbered 0
+  checking-numbers : checkingNumbers (checking bs ev) ≡ outcome (checkFault bs ev) []
+  unfolding checkingNumbers checking checkingOf outcome
+  checking-numbers = go (checkFault bs ev)
+    where
+      go : (k : ℕ) → checkingNumbers (checkingOf k) ≡ outcome k []
+      go zero = refl
+      go (suc k) = refl
 
-pub told-refused : (bs ev : List ℕ) (k : ℕ) → k ≢ 0 → k ≡ checkFault bs ev → Refused k ≡ checking bs ev
-unfolding checking checkingOf
-told-refused bs ev zero n e = absurd (n refl)
-told-refused bs ev (suc k) n e = ap checkingOf e
+  checking-refusals : checking bs ev ≢ Refused 0
+  unfolding checking checkingOf
+  checking-refusals = go (checkFault bs ev)
+    where
+      go : (k : ℕ) → checkingOf k ≢ Refused 0
+      go zero e = let z : _≡_ {A = ℕ} 0 1 = cc in omega arith
+      go (suc k) e = let z : suc k ≡ 0 = cc in omega arith
 
--- ---- the numbers of the answer
+  told : {r : Checking} → r ≡ checking bs ev → (r ≡ checking bs ev) × ((checkingNumbers r ≡ outcome (checkFault bs ev) []) × (r ≢ Refused 0))
+  told e = (e, (ap checkingNumbers e ∙ checking-numbers, λ z. checking-refusals (sym e ∙ z)))
 
-pub checking-numbers : (bs ev : List ℕ) → checkingNumbers (checking bs ev) ≡ outcome (checkFault bs ev) []
-unfolding checkingNumbers checking checkingOf outcome
-checking-numbers bs ev = go (checkFault bs ev)
-  where
-    go : (k : ℕ) → checkingNumbers (checkingOf k) ≡ outcome k []
-    go zero = refl
-    go (suc k) = refl
+  pub told-passed : {k : ℕ} → k ≡ 0 → k ≡ checkFault bs ev → (Passed ≡ checking bs ev) × ((checkingNumbers Passed ≡ outcome (checkFault bs ev) []) × (Passed ≢ Refused 0))
+  unfolding checking checkingOf
+  told-passed z e = told (ap checkingOf (sym z ∙ e))
+
+  pub told-refused : (k : ℕ) → k ≢ 0 → k ≡ checkFault bs ev → (Refused k ≡ checking bs ev) × ((checkingNumbers (Refused k) ≡ outcome (checkFault bs ev) []) × (Refused k ≢ Refused 0))
+  unfolding checking checkingOf
+  told-refused zero n e = absurd (n refl)
+  told-refused (suc k) n e = told (ap checkingOf e)

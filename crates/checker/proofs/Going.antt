@@ -1,146 +1,272 @@
 -- Going over the parts of evidence, one by one, up to the first fault. Assumes nothing.
-use mathlib.Core.Path.{_≡_, refl, sym, ap, _∙_, subst}
-use mathlib.Core.Bool.{true, false}
+use mathlib.Core.Path.{_≡_, refl, sym, ap, _∙_, subst, fun-ext}
+use mathlib.Core.Bool.{Bool, true, false}
 use mathlib.Core.Logic.{_≢_}
 use mathlib.Core.List.{List, []}
-use Prim.Native.Nat.{ℕ, zero, suc, _+_, _-_, _*_, _≤_, _<_, zero-le, suc-le-suc}
+use Prim.Native.Nat.{ℕ, zero, suc, _+_, _-_, _*_, _^_, _≤_, _<_, zero-le, suc-le-suc}
 use native.Mathlib.Omega.{arith}
 use native.Mathlib.Nat.{zero-add}
 use lib.Dec.{T}
 use lib.ListN.{length, getD, replicate}
-use Rattle.bits.specs.Bits.{fieldAt}
 use Rattle.lists.specs.Lists.{range}
 use Rattle.lists.proofs.Ranges.{length-range}
 use Rattle.lists.proofs.Picks.{getD-range}
 use Rattle.lists.proofs.Faults.{Clean, scan-begun, scan-miss, scan-hit, scan-ended}
-use Rattle.rows.specs.Rows.{marked, linkedIn, With, Minus, Meet, rowWords}
+use Rattle.rows.specs.Rows.{marked, linkedIn, With, Minus, Meet, slotsMax, locationsMax, rowWords}
 use Rattle.graph.specs.declared.Node.{Node}
 use Rattle.graph.specs.Held.{heldIn}
-use Rattle.picture.specs.Layout.{edition1}
-use Rattle.picture.specs.Picture.{pictureOf}
+use Rattle.graph.specs.Kept.{ForestKept}
+use Rattle.graph.proofs.Keeping.{reached-kept, kept-reached}
+use Rattle.picture.specs.declared.Header.{Header}
+use Rattle.picture.specs.Layout.{edition1, blocksMax, endpointsMax}
+use Rattle.picture.specs.Picture.{Picture, pictureOf}
+use Rattle.picture.specs.Inner.{Read}
+use Rattle.picture.proofs.Facts.{read-sizes}
 use Rattle.network.specs.Words.{slotCount, endpointCount, isHeld, joins}
-use Rattle.network.specs.Tests.{candidates}
+use Rattle.network.specs.Tests.{marks, served, candidates}
 use Rattle.network.specs.Rows.{RowsOf, SlotRowsOf, EndpointsOf}
-use Rattle.network.proofs.Named.{Named}
-use Rattle.weigh.specs.Sums.{LostBetween}
-use Rattle.evidence.specs.Checks.{forestIn, forestRight, formRight}
-use Rattle.checker.specs.Following.{nodeRight, LeftIn, statedTest, partFault, partsFault}
+use Rattle.network.proofs.Named.{Named, accepted-named}
+use Rattle.network.proofs.Candidates.{candidates-below}
+use Rattle.rows.proofs.Marks.{clear}
+use Rattle.weigh.specs.Sums.{Small, Meets, LostBetween}
+use Rattle.network.proofs.Blocks.{read-slots, read-block-size, read-endpoints, read-block}
+use Rattle.weigh.proofs.Serving.{serving, sums-ready, served-met, loss-met, mark-met}
+use Rattle.evidence.specs.Layout.{forestAt}
+use Rattle.evidence.specs.Checks.{sectionIn, forestIn, nodeRight, formRight}
+use Rattle.evidence.specs.Rules.{Form}
+use Rattle.evidence.proofs.Fields.{candidates-few}
+use Rattle.evidence.proofs.Forests.{test-in, in-test}
+use Rattle.evidence.proofs.Judging.{right-form}
+use Rattle.evidence.proofs.Places.{forest-small}
+use Rattle.checker.specs.Forests.{LeftIn, statedTest, partFault, partsFault}
 use Rattle.checker.proofs.Nodes.{forest-length}
-use Rattle.checker.proofs.Forests.{Followed, Closed, node-wrong, inner-in, link-wrong, forest-passed}
-use Rattle.checker.proofs.Reaching.{Reaches, passed-reaches}
-use Rattle.checker.proofs.Parts.{heldAt, forestAt, statedRight, part-14, part-15, part-none, Found, stated-found, forest-found, held-found}
-use Rattle.checker.proofs.Sums.{sums-found}
+use Rattle.checker.proofs.Following.{Followed, Closed, node-broken, link-broken, inner-in, forest-kept}
+use Rattle.checker.proofs.Parts.{blockAt, heldAt, costAt, part-broken, part-wrong, part-right, formed-block, held-found, stated-found}
 
 -- the parts of evidence
 abbrev pub parts : List ℕ → List ℕ
 parts bs = range 0 (suc (length (candidates (pictureOf bs))))
 
--- what the code has of a picture, and that the evidence has its form
-pub record Tables (bs ev held : List ℕ) (count n size d : ℕ) (links services : List (List ℕ)) (weights guarded : List ℕ) : Type 0 where
-  pub named : Named (pictureOf bs)
-  pub near : List ℕ
-  pub slots : SlotRowsOf (pictureOf bs) held near
-  pub link-rows : RowsOf (joins (pictureOf bs .links)) links
-  pub service-rows : RowsOf (λ c a. joins (pictureOf bs .serviceLinks) a c) services
-  pub end-rows : EndpointsOf (pictureOf bs) weights guarded
-  pub many : n ≡ slotCount (pictureOf bs)
-  pub block-size : size ≡ pictureOf bs .blockSize
-  pub endpoints : d ≡ endpointCount (pictureOf bs)
-  pub form : formRight edition1 (pictureOf bs) ev ≡ true
-  pub counted : count ≡ length (candidates (pictureOf bs))
-
--- the parts before k have no fault, and after the first the row marks what is reached with nothing evicted
-pub record Going (bs ev : List ℕ) (count : ℕ) (row : List ℕ) (fault k : ℕ) : Type 0 where
-  pub within : k ≤ count + 1
-  pub none : fault ≡ 0
-  pub clean : Clean (partFault bs ev) 0 (parts bs) k
-  pub reached : 1 ≤ k → Reaches (pictureOf bs) (isHeld (pictureOf bs)) row
-
-pub going-begun : (bs ev : List ℕ) (count : ℕ) (row : List ℕ) → Going bs ev count row 0 0
-going-begun bs ev count row = record { within = omega arith; none = refl; clean = scan-begun (partFault bs ev) 0 (parts bs); reached = λ l. absurd (omega arith) }
-
 pub part-of : (bs : List ℕ) (k : ℕ) → k ≤ length (candidates (pictureOf bs)) → getD (parts bs) k 0 ≡ k
 part-of bs k l = getD-range 0 0 (suc (length (candidates (pictureOf bs)))) k (omega arith) ∙ zero-add k
 
-module _ {bs ev held : List ℕ} {count n size d : ℕ} {links services : List (List ℕ)} {weights guarded : List ℕ} (t : Tables bs ev held count n size d links services weights guarded) where
-  -- every part was gone over
-  pub going-ended : (row : List ℕ) (fault k : ℕ) → Going bs ev count row fault k → count < k → fault ≡ partsFault bs ev
-  unfolding partsFault
-  going-ended row fault k g l =
-      g .none ∙ scan-ended (partFault bs ev) 0 (parts bs) k (g .clean) (omega (arith, length-range 0 (suc (length (candidates (pictureOf bs)))), t .counted))
+-- part 0 is weighed against nothing, and each section against the first forest
+pub data Sides (row inner : List ℕ) : ℕ → List ℕ → List ℕ → Type 0 where
+  whole : Sides row inner 0 inner (replicate rowWords 0)
+  less : {i : ℕ} → Sides row inner (suc i) row inner
 
-  module _ (row : List ℕ) (fault k : ℕ) (g : Going bs ev count row fault k) (l : k ≤ count) (left : List ℕ) (h : LeftIn held size (fieldAt ev (72 + k * (40 + n * 16) - 40) 8) k left) where
-    most : k ≤ length (candidates (pictureOf bs))
-    most = omega (arith, t .counted)
+pub sides-whole : {row inner before after : List ℕ} (k : ℕ) → k ≡ 0 → before ≡ inner → after ≡ replicate rowWords 0 → Sides row inner k before after
+sides-whole k z e f = rw (z, e, f) whole
+
+pub sides-less : {row inner before after : List ℕ} (k : ℕ) → k ≢ 0 → before ≡ row → after ≡ inner → Sides row inner k before after
+sides-less zero n e f = absurd (n refl)
+sides-less (suc i) n e f = rw (e, f) less
+
+-- ---- what is known
+
+-- what the code has at hand: a picture and evidence, the picture's numbers, and its rows
+pub record Given : Type 0 where
+  pub bs : List ℕ
+  pub ev : List ℕ
+  pub held : List ℕ
+  pub count : ℕ
+  pub n : ℕ
+  pub size : ℕ
+  pub d : ℕ
+  pub links : List (List ℕ)
+  pub services : List (List ℕ)
+  pub weights : List ℕ
+  pub guarded : List ℕ
+
+abbrev pub given : List ℕ → List ℕ → List ℕ → ℕ → ℕ → ℕ → ℕ → List (List ℕ) → List (List ℕ) → List ℕ → List ℕ → Given
+given s e held c n z d l v w g =
+    record { bs = s; ev = e; held = held; count = c; n = n; size = z; d = d; links = l; services = v; weights = w; guarded = g }
+
+abbrev pic : Given → Picture
+pic x = pictureOf (x .bs)
+
+-- a row serves what is served where this is held
+abbrev Serves : Given → (ℕ → Bool) → List ℕ → Type 0
+Serves x held row = Meets (x .services) row (served (pic x) (marks (pic x) held))
+
+-- the rows are the picture's, and the evidence has its form
+pub record Tables (x : Given) : Type 0 where
+  pub named : Named (pic x)
+  pub few-slots : x .n ≤ slotsMax
+  pub few-parts : x .count ≤ blocksMax
+  pub many : slotCount (pic x) ≡ x .n
+  pub block-size : pic x .blockSize ≡ x .size
+  pub endpoints : x .d ≡ endpointCount (pic x)
+  pub near : List ℕ
+  pub slots : SlotRowsOf (pic x) (x .held) near
+  pub link-rows : RowsOf locationsMax (joins (pic x .links)) (x .links)
+  pub service-rows : RowsOf (suc endpointsMax) (λ c a. joins (pic x .serviceLinks) a c) (x .services)
+  pub end-rows : EndpointsOf (pic x) (x .weights) (x .guarded)
+  pub ready : Small (x .weights) × (length (x .services) ≡ suc endpointsMax) × (x .d ≤ endpointsMax)
+  pub form : Form edition1 (pic x) (x .ev)
+  pub counted : x .count ≡ length (candidates (pic x))
+  pub room : (k : ℕ) → 1 ≤ k → k ≤ x .count → sectionIn edition1 (x .n) (x .ev) (k - 1) .block * x .size + x .size ≤ slotsMax
+
+-- the parts before k have no fault, and after the first the row marks what is reached with nothing evicted
+pub record Gone (x : Given) (row : List ℕ) (k : ℕ) : Type 0 where
+  pub tables : Tables x
+  pub clean : Clean (partFault (x .bs) (x .ev)) 0 (parts (x .bs)) k
+  pub reached : 1 ≤ k → Serves x (isHeld (pic x)) row
+
+-- part k is at hand: its forest starts at bit q, and this is held in it
+pub record Part (x : Given) (row : List ℕ) (k q : ℕ) (left : List ℕ) : Type 0 where
+  pub gone : Gone x row k
+  pub most : k ≤ x .count
+  pub at : q ≡ forestAt edition1 (x .n) k
+  pub small : q < 2 ^ 20
+  pub holding : LeftIn (x .held) (x .size) (sectionIn edition1 (x .n) (x .ev) (k - 1) .block) k left
+
+-- the slots of its forest were followed: these are in it, and these are held outside it
+pub record Inside (x : Given) (row : List ℕ) (k : ℕ) (inner outer : List ℕ) : Type 0 where
+  pub q : ℕ
+  pub left : List ℕ
+  pub slots : List ℕ
+  pub part : Part x row k q left
+  pub with : With slots 0 inner
+  pub minus : Minus left inner outer
+  pub v : ℕ
+  pub followed : Followed (x .links) left (forestIn edition1 (x .n) (x .ev) q) slots v
+  pub ended : x .n < v
+
+-- ---- the tables
+
+module _ {bs ev held : List ℕ} {count : ℕ} {links services : List (List ℕ)} {weights guarded : List ℕ} {h : Header} (r : Read bs h) where
+  pub tables-made : (near : List ℕ) × SlotRowsOf (pictureOf bs) held near → formRight edition1 (pictureOf bs) ev ≡ true → count ≡ length (candidates (pictureOf bs))
+      → RowsOf locationsMax (joins (pictureOf bs .links)) links → RowsOf (suc endpointsMax) (λ c a. joins (pictureOf bs .serviceLinks) a c) services → EndpointsOf (pictureOf bs) weights guarded
+      → Tables (given bs ev held count (h .slots) (h .«block_size») (h .endpoints) links services weights guarded)
+  tables-made s f c l v e =
+      let p = pictureOf bs in
+      let form = right-form edition1 p ev (rw f tt) in
+      let many = read-slots bs h r in
+      record {
+        named = accepted-named bs (r .accepted);
+        few-slots = read-sizes bs h r .slots-most;
+        few-parts = omega (arith, candidates-few bs (r .accepted));
+        many = many;
+        block-size = read-block-size bs h r;
+        endpoints = read-endpoints bs h r;
+        near = s .0;
+        slots = s .1;
+        link-rows = l;
+        service-rows = v;
+        end-rows = e;
+        ready = sums-ready bs h r v e;
+        form = form;
+        counted = c;
+        room = λ k a b.
+            let i : k - 1 < length (candidates p) = omega arith in
+            rw (formed-block bs ev many form (k - 1) i) (read-block bs h r (blockAt p (k - 1)) (candidates-below p (k - 1) i));
+      }
+
+-- ---- going over the parts
+
+module _ {x : Given} where
+  pub gone-begun : {row : List ℕ} → Tables x → Gone x row 0
+  gone-begun t = record { tables = t; clean = scan-begun (partFault (x .bs) (x .ev)) 0 (parts (x .bs)); reached = λ l. absurd (omega arith) }
+
+  -- every part was gone over
+  pub gone-ended : {row : List ℕ} {k : ℕ} → Gone x row k → x .count < k → 0 ≡ partsFault (x .bs) (x .ev)
+  unfolding partsFault
+  gone-ended {k = k} g l =
+      scan-ended (partFault (x .bs) (x .ev)) 0 (parts (x .bs)) k (g .clean) (omega (arith, length-range 0 (suc (length (candidates (pic x)))), g .tables .counted))
+
+  -- a part is at hand
+  pub part-begun : {row : List ℕ} {k q : ℕ} {left : List ℕ} → Gone x row k → k ≤ x .count → q ≡ forestAt edition1 (x .n) k
+      → LeftIn (x .held) (x .size) (sectionIn edition1 (x .n) (x .ev) (k - 1) .block) k left → Part x row k q left
+  part-begun {k = k} g l e h =
+      let t = g .tables in
+      record { gone = g; most = l; at = e; small = omega (arith, forest-small (x .n) k (t .few-slots) (omega (arith, t .few-parts))); holding = h }
+
+  -- what the sums over the marks of a part come to
+  module _ (t : Tables x) {row inner : List ℕ} where
+    sums-found : {k : ℕ} {before after : List ℕ} {w m : ℕ} → Sides row inner k before after → Serves x (heldAt (pic x) k) inner → (1 ≤ k → Serves x (isHeld (pic x)) row)
+        → LostBetween (x .services) (x .weights) (x .guarded) (x .d) before after w m → (w ≡ costAt (pic x) k .loss) × (1 ≤ k → m ≡ costAt (pic x) k .mark)
+    unfolding heldAt costAt
+    sums-found whole now r s = (served-met (t .end-rows) (t .endpoints) now (clear rowWords) s, λ l. absurd (omega arith))
+    sums-found (less {i = i}) now r s =
+        let all = r (suc-le-suc zero-le) in
+        (loss-met (t .end-rows) (t .endpoints) all (blockAt (pic x) i) now s, λ _. mark-met (t .end-rows) (t .endpoints) all (blockAt (pic x) i) now s)
+
+    still : {k : ℕ} {before after : List ℕ} → Sides row inner k before after → Serves x (heldAt (pic x) k) inner → (1 ≤ k → Serves x (isHeld (pic x)) row) → Serves x (isHeld (pic x)) before
+    unfolding heldAt
+    still whole now r = now
+    still less now r = r (suc-le-suc zero-le)
+
+  module _ {row : List ℕ} {k q : ℕ} {left : List ℕ} (a : Part x row k q left) where
+    abbrev t : Tables x
+    t = a .gone .tables
+
+    abbrev es : List Node
+    es = forestIn edition1 (x .n) (x .ev) q
+
+    most : k ≤ length (candidates (pic x))
+    most = omega (arith, a .most, t .counted)
 
     -- the part at hand has a fault
-    stopped : {x : ℕ} → x ≢ 0 → x ≡ partFault bs ev k → x ≡ partsFault bs ev
+    stopped : {y : ℕ} → y ≢ 0 → y ≡ partFault (x .bs) (x .ev) k → y ≡ partsFault (x .bs) (x .ev)
     unfolding partsFault
     stopped z e =
-        scan-hit (partFault bs ev) 0 (parts bs) k (g .clean) (omega (arith, length-range 0 (suc (length (candidates (pictureOf bs)))), most)) (e ∙ ap (partFault bs ev) (sym (part-of bs k most))) z
+        scan-hit (partFault (x .bs) (x .ev)) 0 (parts (x .bs)) k (a .gone .clean) (omega (arith, length-range 0 (suc (length (candidates (pic x)))), most))
+        (e ∙ ap (partFault (x .bs) (x .ev)) (sym (part-of (x .bs) k most))) z
 
-    es : List Node
-    es = forestIn edition1 n ev (72 + k * (40 + n * 16))
+    -- the rows say what the picture says
+    same : ForestKept (linkedIn (x .links)) (heldIn left) (x .n) es ≡ ForestKept (joins (pic x .links)) (heldAt (pic x) k) (x .n) (forestIn edition1 (x .n) (x .ev) (forestAt edition1 (x .n) k))
+    same =
+        let links-same : linkedIn (x .links) ≡ joins (pic x .links) = fun-ext (λ u. fun-ext (λ v. t .link-rows .same u v)) in
+        let held-same : heldIn left ≡ heldAt (pic x) k = fun-ext (held-found (x .bs) (x .ev) (t .many) (t .form) (t .slots) k most (rw (← t .block-size) at (a .holding))) in
+        rw (links-same, held-same, a .at)
 
-    here : es ≡ forestAt bs ev k
-    unfolding es
-    here = forest-found bs ev n (t .many) k
-
-    holds : (v : ℕ) → heldIn left v ≡ heldAt bs ev k v
-    holds = held-found bs ev n (t .many) held (t .near) left size k (t .slots) (t .block-size) (t .form) most h
-
-    len : length es ≡ slotCount (pictureOf bs)
-    unfolding es
-    len = forest-length n ev (72 + k * (40 + n * 16)) ∙ t .many
-
-    wrong : forestRight (pictureOf bs) (heldAt bs ev k) es ≡ false → 14 ≡ partsFault bs ev
-    wrong e = stopped (λ z. absurd (omega arith)) (part-14 bs ev k most (ap (forestRight (pictureOf bs) (heldAt bs ev k)) (sym here) ∙ e))
+    broken : ¬ ForestKept (linkedIn (x .links)) (heldIn left) (x .n) es → 14 ≡ partsFault (x .bs) (x .ev)
+    broken b = stopped (λ z. absurd (omega arith)) (part-broken (x .bs) (x .ev) (t .many) k most (λ y. b (rw same y)))
 
     -- a slot breaks its rule
-    pub going-node : (v : ℕ) → 1 ≤ v → v ≤ n → nodeRight (linkedIn links) (heldIn left) (forestIn edition1 n ev (72 + k * (40 + n * 16))) v ≡ false → 14 ≡ partsFault bs ev
-    unfolding es
-    going-node v a b e = wrong (node-wrong (pictureOf bs) (t .named) (heldAt bs ev k) links (t .link-rows) left holds es len v a (omega (arith, t .many)) e)
+    pub part-node : {v : ℕ} → 1 ≤ v → v ≤ x .n → nodeRight (linkedIn (x .links)) (heldIn left) es v ≡ false → 14 ≡ partsFault (x .bs) (x .ev)
+    part-node l m e = broken (node-broken (linkedIn (x .links)) (heldIn left) es l m e)
 
-    module _ (slots inner outer : List ℕ) (w : With slots 0 inner) (m : Minus left inner outer) (f : Followed (linkedIn links) (heldIn left) (forestIn edition1 n ev (72 + k * (40 + n * 16))) slots (n + 1)) where
-      -- a link leads out of the forest
-      pub going-link : (a : ℕ) → T (marked inner a) → Meet (getD links a []) outer true → 14 ≡ partsFault bs ev
-      unfolding es
-      going-link a i x = wrong (link-wrong (pictureOf bs) (t .named) (heldAt bs ev k) links (t .link-rows) left holds es len slots inner outer w m n (t .many) f a i x)
+  module _ {row : List ℕ} {k : ℕ} {inner outer : List ℕ} (i : Inside x row k inner outer) where
+    abbrev g : Gone x row k
+    g = i .part .gone
 
-      module _ (c : Closed (linkedIn links) inner outer (n + 1)) (before after : List ℕ) (weight mark : ℕ) (y : k ≡ 0 → (before ≡ inner) × (after ≡ replicate rowWords 0)) (z : k ≢ 0 → (before ≡ row) × (after ≡ inner))
-          (s : LostBetween services weights guarded d before after weight mark) where
-        right : forestRight (pictureOf bs) (heldAt bs ev k) es ≡ true
-        unfolding es
-        right = forest-passed (pictureOf bs) (t .named) (heldAt bs ev k) links (t .link-rows) left holds es len slots inner outer w m n (t .many) f c
+    len : length (forestIn edition1 (x .n) (x .ev) (i .q)) ≡ x .n
+    len = forest-length (x .n) (x .ev) (i .q)
 
-        there : forestRight (pictureOf bs) (heldAt bs ev k) (forestAt bs ev k) ≡ true
-        there = ap (forestRight (pictureOf bs) (heldAt bs ev k)) (sym here) ∙ right
+    -- a link leads out of the forest
+    pub part-link : (u : ℕ) → T (marked inner u) → Meet (getD (x .links) u []) outer true → 14 ≡ partsFault (x .bs) (x .ev)
+    part-link u m y = broken (i .part) (link-broken len (i .with) (i .minus) (i .followed) (i .ended) u m y)
 
-        reaches : Reaches (pictureOf bs) (heldAt bs ev k) inner
-        unfolding es
-        reaches = passed-reaches (pictureOf bs) (t .named) (heldAt bs ev k) es len right inner (inner-in (pictureOf bs) (t .named) (heldAt bs ev k) links (t .link-rows) left holds es len slots inner outer w m n (t .many) f)
+    module _ {a : ℕ} (c : Closed (x .links) inner outer a) (looked : x .n < a) {before after : List ℕ} (y : Sides row inner k before after) {weight mark : ℕ}
+        (s : LostBetween (x .services) (x .weights) (x .guarded) (x .d) before after weight mark) where
+      kept : ForestKept (joins (pic x .links)) (heldAt (pic x) k) (x .n) (forestIn edition1 (x .n) (x .ev) (forestAt edition1 (x .n) k))
+      kept =
+          let low : (u v : ℕ) → T (linkedIn (x .links) u v) → u ≤ x .n =
+          λ u v j. omega (arith, g .tables .many, g .tables .named .links u v (subst T (g .tables .link-rows .same u v) j) .0) in
+          rw (same (i .part)) at (forest-kept len (i .with) (i .minus) (i .followed) (i .ended) low c looked)
 
-        found : Found bs ev k weight mark
-        found = sums-found bs ev (t .named) services weights guarded d (t .service-link-rows) (t .end-rows) (t .endpoints) k row inner before after weight mark y z reaches (g .reached) s
+      now : Serves x (heldAt (pic x) k) inner
+      now =
+          let here = inner-in len (i .with) (i .minus) (i .followed) (i .ended) in
+          let fit = rw (← i .part .at) at kept in
+          serving (pic x) (heldAt (pic x) k) (g .tables .named) (g .tables .service-rows) (λ v z. kept-reached fit len v (test-in _ v (subst T (here v) z)))
+          (λ v z. subst T (sym (here v)) (in-test _ v (reached-kept fit z)))
 
-        stated : statedTest ev (72 + k * (40 + n * 16)) k weight mark ≡ statedRight bs ev k
-        stated = stated-found bs ev n (t .many) k weight mark found
+      stated : statedTest (x .n) (x .ev) k weight mark ≡ statedTest (x .n) (x .ev) k (costAt (pic x) k .loss) (costAt (pic x) k .mark)
+      stated = let e = sums-found (g .tables) y now (g .reached) s in stated-found (x .bs) (x .ev) (g .tables .many) k (e .0) (e .1)
 
-        -- what is stated is wrong
-        pub going-weight : statedTest ev (72 + k * (40 + n * 16)) k weight mark ≡ false → 15 ≡ partsFault bs ev
-        going-weight e = stopped (λ x. absurd (omega arith)) (part-15 bs ev k most there (sym stated ∙ e))
+      -- what is stated is wrong
+      pub part-stated : statedTest (x .n) (x .ev) k weight mark ≡ false → 15 ≡ partsFault (x .bs) (x .ev)
+      part-stated e = stopped (i .part) (λ z. absurd (omega arith)) (part-wrong (x .bs) (x .ev) (g .tables .many) k (most (i .part)) kept (sym stated ∙ e))
 
-        -- the part has no fault
-        pub going-next : (fault′ : ℕ) → fault′ ≡ 0 → statedTest ev (72 + k * (40 + n * 16)) k weight mark ≡ true → Going bs ev count before fault′ (k + 1)
-        going-next fault′ q e =
-            record {
-              within = omega arith;
-              none = q;
-              clean = scan-miss (partFault bs ev) 0 (parts bs) k (g .clean) (ap (partFault bs ev) (part-of bs k most) ∙ part-none bs ev k most there (sym stated ∙ e));
-              reached = λ _. now k reaches y z (g .reached);
-            }
-          where
-            now : (j : ℕ) → Reaches (pictureOf bs) (heldAt bs ev j) inner → (j ≡ 0 → (before ≡ inner) × (after ≡ replicate rowWords 0)) → (j ≢ 0 → (before ≡ row) × (after ≡ inner))
-                → (1 ≤ j → Reaches (pictureOf bs) (isHeld (pictureOf bs)) row) → Reaches (pictureOf bs) (isHeld (pictureOf bs)) before
-            now zero r a b o = unfold heldAt in subst (Reaches (pictureOf bs) (isHeld (pictureOf bs))) (sym (a refl .0)) r
-            now (suc i) r a b o = subst (Reaches (pictureOf bs) (isHeld (pictureOf bs))) (sym (b (λ x. absurd (omega arith)) .0)) (o (suc-le-suc zero-le))
+      -- the part has no fault
+      pub part-gone : statedTest (x .n) (x .ev) k weight mark ≡ true → Gone x before (k + 1)
+      part-gone e =
+          let none = part-right (x .bs) (x .ev) (g .tables .many) k (most (i .part)) kept (sym stated ∙ e) in
+          record {
+            tables = g .tables;
+            clean = scan-miss (partFault (x .bs) (x .ev)) 0 (parts (x .bs)) k (g .clean) (ap (partFault (x .bs) (x .ev)) (part-of (x .bs) k (most (i .part))) ∙ none);
+            reached = λ _. still (g .tables) y now (g .reached);
+          }

@@ -1,15 +1,15 @@
 -- The nodes of a forest in the evidence, and what the test of one node comes to. Assumes nothing.
-use mathlib.Core.Path.{_≡_, refl, sym, ap, _∙_}
-use mathlib.Core.Bool.{Bool, true, false, not, _&&_, cond, and-false, and-true}
-use mathlib.Core.Logic.{_≢_, by-cases}
+use mathlib.Core.Path.{_≡_, refl, _∙_}
+use mathlib.Core.Bool.{Bool, true, false, not, and-false, and-true}
+use mathlib.Core.Logic.{_≢_}
 use mathlib.Core.List.{List}
 use Prim.Native.Nat.{ℕ, _+_, _≤_, _<_}
 use native.Mathlib.Omega.{arith}
-use native.Mathlib.Decide.{ℕ-discrete}
 use borrow.Author.Tests.{eq-eqb, ne-eqb}
 use lib.Dec.{eqb}
 use lib.ListN.{length}
 use Rattle.lists.specs.Lists.{item, sum}
+use Rattle.lists.proofs.Tests.{eqb-comm}
 use Rattle.bits.proofs.Reading.{fieldAt-lt}
 use Rattle.graph.specs.declared.Node.{Node}
 use Rattle.graph.specs.Kept.{nodeOf}
@@ -17,8 +17,8 @@ use Rattle.graph.proofs.Keeping.{node-above}
 use Rattle.picture.specs.Layout.{edition1}
 use Rattle.picture.proofs.Starts.{field-second, length-rows, item-row}
 use Rattle.evidence.specs.Layout.{nodeWidths}
-use Rattle.evidence.specs.Checks.{nodeAt, forestIn, isIn}
-use Rattle.checker.specs.Following.{nodeFrom, nodeRight}
+use Rattle.evidence.specs.Checks.{nodeAt, forestIn, isIn, nodeRight}
+use Rattle.checker.specs.Forests.{nodeFrom}
 
 -- ---- the nodes
 
@@ -39,15 +39,6 @@ depth-small ev q v = rw field-second (fieldAt-lt ev _ 8)
 -- ---- what is in a forest
 
 module _ (es : List Node) where
-  -- the origin is, at depth 0
-  pub origin-in : isIn es 0 ≡ true
-  unfolding isIn
-  origin-in = refl
-
-  pub origin-depth : nodeOf es 0 .depth ≡ 0
-  unfolding nodeOf item
-  origin-depth = refl
-
   -- a slot is where its depth is not 0
   pub slot-in : (v : ℕ) → 1 ≤ v → isIn es v ≡ not (eqb (nodeOf es v .depth) 0)
   unfolding isIn
@@ -58,51 +49,32 @@ module _ (es : List Node) where
   unfolding isIn
   above-in v l = rw (ne-eqb v 0 (omega arith), node-above es v l)
 
--- ---- the test of a node, whose parent and depth are these
+-- ---- the test of slot v, whose node is x
 
-eqb-swap : (a b : ℕ) → eqb a b ≡ eqb b a
-eqb-swap a b = by-cases (ℕ-discrete a b) (λ e. rw e) (λ n. ne-eqb a b n ∙ sym (ne-eqb b a (λ e. n (sym e))))
+module _ (linked : ℕ → ℕ → Bool) (held : ℕ → Bool) (es : List Node) (v : ℕ) {x : Node} (e : nodeOf es v ≡ x) where
+  pub node-outside : x .depth ≡ 0 → eqb (x .parent) 0 ≡ nodeRight linked held es v
+  unfolding nodeRight
+  node-outside z = rw (e, eq-eqb (x .depth) 0 z)
 
-last-false : (a b c : Bool) → (a && (b && (c && false))) ≡ false
-last-false true true true = refl
-last-false true true false = refl
-last-false true false c = refl
-last-false false b c = refl
-
-module _ (linked : ℕ → ℕ → Bool) (held : ℕ → Bool) (es : List Node) (v parent depth : ℕ) (ep : parent ≡ nodeOf es v .parent) (ed : depth ≡ nodeOf es v .depth) where
-  -- the rule of a slot in the forest
-  ruled : Bool
-  ruled = held v && (isIn es parent && (eqb (nodeOf es parent .depth + 1) depth && linked parent v))
-
-  whole : cond (eqb depth 0) (eqb parent 0) ruled ≡ nodeRight linked held es v
-  unfolding ruled nodeRight
-  whole = rw (ep, ed)
-
-  pub node-outside : depth ≡ 0 → eqb parent 0 ≡ nodeRight linked held es v
-  node-outside z = sym (ap (λ (b : Bool). cond b (eqb parent 0) ruled) (eq-eqb depth 0 z)) ∙ whole
-
-  module _ (deep : depth ≢ 0) where
-    deeper : ruled ≡ nodeRight linked held es v
-    deeper = sym (ap (λ (b : Bool). cond b (eqb parent 0) ruled) (ne-eqb depth 0 deep)) ∙ whole
-
+  module _ (deep : x .depth ≢ 0) where
     pub node-not-held : held v ≡ false → false ≡ nodeRight linked held es v
-    unfolding ruled
-    node-not-held h = sym (ap (λ (b : Bool). b && (isIn es parent && (eqb (nodeOf es parent .depth + 1) depth && linked parent v))) h) ∙ deeper
+    unfolding nodeRight
+    node-not-held h = rw (e, ne-eqb (x .depth) 0 deep, h)
 
-    pub node-parent-out : isIn es parent ≡ false → false ≡ nodeRight linked held es v
-    unfolding ruled
-    node-parent-out i = sym (ap (λ (b : Bool). held v && (b && (eqb (nodeOf es parent .depth + 1) depth && linked parent v))) i ∙ and-false (held v)) ∙ deeper
+    pub node-parent-out : isIn es (x .parent) ≡ false → false ≡ nodeRight linked held es v
+    unfolding nodeRight
+    node-parent-out i = rw (e, ne-eqb (x .depth) 0 deep, i, and-false (held v))
 
-    pub node-not-linked : linked parent v ≡ false → false ≡ nodeRight linked held es v
-    unfolding ruled
-    node-not-linked l =
-        sym (ap (λ (b : Bool). held v && (isIn es parent && (eqb (nodeOf es parent .depth + 1) depth && b))) l ∙ last-false (held v) (isIn es parent) (eqb (nodeOf es parent .depth + 1) depth)) ∙ deeper
+    pub node-not-linked : linked (x .parent) v ≡ false → false ≡ nodeRight linked held es v
+    unfolding nodeRight
+    node-not-linked l = rw (e, ne-eqb (x .depth) 0 deep, l) (simp and-false)
 
     -- held, linked, and its parent in the forest: the depths are compared
-    pub node-depths : held v ≡ true → isIn es parent ≡ true → linked parent v ≡ true → eqb (nodeOf es parent .depth + 1) depth ≡ nodeRight linked held es v
-    unfolding ruled
-    node-depths h i l = sym (rw (h, i, l) (and-true (eqb (nodeOf es parent .depth + 1) depth))) ∙ deeper
+    pub node-depths : held v ≡ true → linked (x .parent) v ≡ true → isIn es (x .parent) ≡ true → eqb (nodeOf es (x .parent) .depth + 1) (x .depth) ≡ nodeRight linked held es v
+    unfolding nodeRight
+    node-depths h l i = rw (e, ne-eqb (x .depth) 0 deep, h, i, l) (simp and-true)
 
     -- the same of a parent that is the origin
-    pub node-root : held v ≡ true → parent ≡ 0 → linked parent v ≡ true → eqb depth 1 ≡ nodeRight linked held es v
-    node-root h z l = eqb-swap depth 1 ∙ sym (rw (z, origin-depth)) ∙ node-depths h (rw z (origin-in es)) l
+    pub node-root : held v ≡ true → linked (x .parent) v ≡ true → x .parent ≡ 0 → eqb (x .depth) 1 ≡ nodeRight linked held es v
+    unfolding isIn nodeOf item
+    node-root h l z = eqb-comm (x .depth) 1 ∙ rw z at (node-depths h l (rw z))

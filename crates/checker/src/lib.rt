@@ -88,7 +88,7 @@ fn shown_part(s: &[u8], ev: &[u8]) -> Part
             let i = verdict::section_named(ev, n, head.count, head.block);
             Part {
                 start: evidence::section_at(n, i) / BYTE_BITS,
-                size: evidence::section_bits(n) / BYTE_BITS,
+                size: evidence::section_bytes(n),
             }
         }
     }

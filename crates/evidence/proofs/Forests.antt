@@ -36,36 +36,36 @@ module _ (xs : List Node) (v : ℕ) where
 
 -- ---- the rule of a node, and that of a link
 
-module _ (p : Picture) (held : ℕ → Bool) (xs : List Node) where
+module _ (linked : ℕ → ℕ → Bool) (held : ℕ → Bool) (xs : List Node) where
   -- what is asked of a slot of depth above 0
   deepRight : ℕ → Bool
   deepRight v =
       held v
       && (isIn xs (nodeOf xs v .parent)
-      && (eqb (nodeOf xs (nodeOf xs v .parent) .depth + 1) (nodeOf xs v .depth) && joins (p .links) (nodeOf xs v .parent) v))
+      && (eqb (nodeOf xs (nodeOf xs v .parent) .depth + 1) (nodeOf xs v .depth) && linked (nodeOf xs v .parent) v))
 
-  pub right-node : (v : ℕ) → T (nodeRight (joins (p .links)) held xs v) → NodeKept (joins (p .links)) held xs v
+  pub right-node : (v : ℕ) → T (nodeRight linked held xs v) → NodeKept linked held xs v
   unfolding nodeRight deepRight
   right-node v t = by-cases (ℕ-discrete (nodeOf xs v .depth) 0) flat deep
     where
-      flat : nodeOf xs v .depth ≡ 0 → NodeKept (joins (p .links)) held xs v
+      flat : nodeOf xs v .depth ≡ 0 → NodeKept linked held xs v
       flat z = outside z (eqb→eq (nodeOf xs v .parent) 0 (subst (λ (b : Bool). T (cond b (eqb (nodeOf xs v .parent) 0) (deepRight v))) (eq-eqb _ _ z) t))
 
-      deep : nodeOf xs v .depth ≢ 0 → NodeKept (joins (p .links)) held xs v
+      deep : nodeOf xs v .depth ≢ 0 → NodeKept linked held xs v
       deep d =
           let s = and-T (held v) _ (subst (λ (b : Bool). T (cond b (eqb (nodeOf xs v .parent) 0) (deepRight v))) (ne-eqb _ _ d) t) in
           let u = and-T (isIn xs (nodeOf xs v .parent)) _ (s .1) in
-          let w = and-T (eqb (nodeOf xs (nodeOf xs v .parent) .depth + 1) (nodeOf xs v .depth)) (joins (p .links) (nodeOf xs v .parent) v) (u .1) in
+          let w = and-T (eqb (nodeOf xs (nodeOf xs v .parent) .depth + 1) (nodeOf xs v .depth)) (linked (nodeOf xs v .parent) v) (u .1) in
           inside d (s .0) (test-in xs (nodeOf xs v .parent) (u .0)) (eqb→eq _ _ (w .0)) (w .1)
 
-  pub node-right : (v : ℕ) → NodeKept (joins (p .links)) held xs v → T (nodeRight (joins (p .links)) held xs v)
+  pub node-right : (v : ℕ) → NodeKept linked held xs v → T (nodeRight linked held xs v)
   unfolding nodeRight
   node-right v (outside z o) = rw (eq-eqb _ _ z, eq-eqb _ _ o) tt
   node-right v (inside d h i e l) =
       rw (ne-eqb _ _ d)
       (T-and (held v) _ h
       (T-and (isIn xs (nodeOf xs v .parent)) _ (in-test xs (nodeOf xs v .parent) i)
-      (T-and (eqb (nodeOf xs (nodeOf xs v .parent) .depth + 1) (nodeOf xs v .depth)) (joins (p .links) (nodeOf xs v .parent) v) (eq-T _ _ e) l)))
+      (T-and (eqb (nodeOf xs (nodeOf xs v .parent) .depth + 1) (nodeOf xs v .depth)) (linked (nodeOf xs v .parent) v) (eq-T _ _ e) l)))
 
 module _ (held : ℕ → Bool) (xs : List Node) where
   pub right-link : (l : Link) → T (linkRight held xs l) → In xs (l .from) → 1 ≤ l .to → nodeOf xs (l .to) .depth ≡ 0 → ¬ T (held (l .to))
@@ -94,7 +94,7 @@ module _ (p : Picture) (held : ℕ → Bool) (xs : List Node) where
   right-kept t =
       let s = and-T (all (nodeRight (joins (p .links)) held xs) (range 1 (slotCount p))) (all (linkRight held xs) (p .links)) t in
       record {
-        nodes = λ v l m. right-node p held xs v (all-range (nodeRight (joins (p .links)) held xs) 1 (slotCount p) (s .0) v l (omega arith));
+        nodes = λ v l m. right-node (joins (p .links)) held xs v (all-range (nodeRight (joins (p .links)) held xs) 1 (slotCount p) (s .0) v l (omega arith));
         closed = λ a b j.
             let r = joins-at (p .links) a b j in
             let k = right-link held xs (getD (p .links) (r .at) noLink) (all-at (linkRight held xs) (p .links) (s .1) (r .at) (r .within) noLink) in
@@ -105,6 +105,6 @@ module _ (p : Picture) (held : ℕ → Bool) (xs : List Node) where
   unfolding forestRight
   kept-right k =
       T-and (all (nodeRight (joins (p .links)) held xs) (range 1 (slotCount p))) (all (linkRight held xs) (p .links))
-      (range-all (nodeRight (joins (p .links)) held xs) 1 (slotCount p) (λ v l m. node-right p held xs v (k .nodes v l (omega arith))))
+      (range-all (nodeRight (joins (p .links)) held xs) 1 (slotCount p) (λ v l m. node-right (joins (p .links)) held xs v (k .nodes v l (omega arith))))
       (at-all noLink (linkRight held xs) (p .links)
       (λ i h. link-right held xs (getD (p .links) i noLink) (k .closed _ _ (at-joins (record { at = i; within = h; from = refl; to = refl })))))

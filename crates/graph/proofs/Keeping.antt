@@ -37,7 +37,7 @@ node-above es zero h = refl
 node-above es (suc i) h = List·getD-eq-default es (record { parent = 0; depth = 0 }) (omega arith)
 
 -- so what has a depth is a slot
-deep-slot : (es : List Node) (v : ℕ) → nodeOf es v .depth ≢ 0 → (1 ≤ v) × (v ≤ length es)
+pub deep-slot : (es : List Node) (v : ℕ) → nodeOf es v .depth ≢ 0 → (1 ≤ v) × (v ≤ length es)
 unfolding nodeOf item
 deep-slot es zero deep = absurd (deep refl)
 deep-slot es (suc i) deep =

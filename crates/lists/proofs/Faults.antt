@@ -1,7 +1,7 @@
 -- The first fault of a list of tests, the scan that finds it, and the rules that it judges. Assumes nothing.
 use mathlib.Core.Path.{_≡_, refl, sym, ap, _∙_, subst}
 use mathlib.Core.Bool.{Bool, true, false, not}
-use mathlib.Core.List.{List, [], _∷_, map}
+use mathlib.Core.List.{List, [], _∷_, _++_, map}
 use mathlib.Core.Logic.{_≢_}
 use Prim.Native.Nat.{ℕ, zero, suc, _+_, _<_, _≤_, zero-le, suc-le-suc}
 use native.Mathlib.Omega.{arith}
@@ -87,6 +87,15 @@ skip-at {x} {y} l o e h = h ∙ sym (first-skip y l (sym e ∙ o))
 pub end-at : 0 ≡ first []
 unfolding first
 end-at = refl
+
+-- the first number of some elements may stand for them
+pub first-in : (k l m : List ℕ) → first (k ++ (first l ∷ m)) ≡ first (k ++ (l ++ m))
+unfolding first
+first-in [] [] m = refl
+first-in [] (zero ∷ l) m = first-in [] l m
+first-in [] (suc x ∷ l) m = refl
+first-in (zero ∷ k) l m = first-in k l m
+first-in (suc x ∷ k) l m = refl
 
 -- ---- a scan of a list from its front, at each of whose elements f tells a fault or 0
 

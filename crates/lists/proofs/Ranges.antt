@@ -6,9 +6,10 @@ use mathlib.Core.List.{List, _∷_, map}
 use Prim.Native.Nat.{ℕ, zero, suc, _+_, _<_, _≤_, zero-le, suc-le-suc}
 use native.Mathlib.Omega.{arith}
 use native.Mathlib.Decide.{ℕ-discrete}
-use native.Mathlib.Nat.{add-zero, add-suc, suc-add, le-of-suc-le-suc, not-suc-le-zero}
+use native.Mathlib.Nat.{add-zero, zero-add, add-suc, suc-add, le-of-suc-le-suc, not-suc-le-zero}
 use lib.Dec.{T}
-use lib.ListN.{length, getD}
+use lib.ListN.{length, getD, length-map}
+use lib.Seq.{ext-getD}
 use Rattle.lists.specs.Lists.{range, any}
 use Rattle.lists.proofs.Tests.{or-T, T-or-l, T-or-r}
 
@@ -30,6 +31,17 @@ map-range-same f g i j zero h = refl
 map-range-same {A} f g i j (suc k) h =
     ap₂ {C = List A} (λ (x : A) (l : List A). x ∷ l) (ap f (sym (add-zero i)) ∙ h 0 (suc-le-suc zero-le) ∙ ap g (add-zero j))
     (map-range-same f g (suc i) (suc j) k (λ m s. ap f (suc-add i m ∙ sym (add-suc i m)) ∙ h (suc m) (suc-le-suc s) ∙ ap g (add-suc j m ∙ sym (suc-add j m))))
+
+-- a list is made of a range, where each of its elements is made of its place
+pub range-made : {A : Type 0} (d : A) (f : ℕ → A) (l : List A) → ((i : ℕ) → i < length l → f i ≡ getD l i d) → map f (range 0 (length l)) ≡ l
+range-made d f l h =
+    let long = length-map (range 0 (length l)) f ∙ length-range 0 (length l) in
+    ext-getD d (map f (range 0 (length l))) l long (λ i s. let m : i < length l = rw long at s in getD-map-range f d 0 (length l) i m ∙ rw zero-add (h i m))
+
+pub map-shift : {A : Type 0} (f : ℕ → A) (i k : ℕ) → map f (range (suc i) k) ≡ map (λ j. f (suc j)) (range i k)
+unfolding range
+map-shift f i zero = refl
+map-shift f i (suc k) = ap (λ (l : List _). f (suc i) ∷ l) (map-shift f (suc i) k)
 
 -- a number of the range that passes the test
 pub record InRange (f : ℕ → Bool) (i k : ℕ) : Type 0 where

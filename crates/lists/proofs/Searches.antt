@@ -1,11 +1,11 @@
 -- The first element of a list that passes a test: that it passes, that none before it does, and its bounds. Assumes nothing.
-use mathlib.Core.Path.{_≡_, refl, subst}
+use mathlib.Core.Path.{_≡_, refl, sym, ap, subst}
 use mathlib.Core.Bool.{Bool, true, false, _||_, cond}
-use mathlib.Core.List.{List, [], _∷_}
+use mathlib.Core.List.{List, [], _∷_, map}
 use Prim.Native.Nat.{ℕ, zero, suc, _+_, _<_, _≤_, zero-le, suc-le-suc}
 use native.Mathlib.Omega.{arith}
 use native.Mathlib.Decide.{ℕ-discrete}
-use native.Mathlib.Nat.{le-of-suc-le-suc, not-suc-le-zero}
+use native.Mathlib.Nat.{add-zero, zero-add, le-of-suc-le-suc, not-suc-le-zero}
 use lib.Dec.{T}
 use lib.ListN.{length, getD}
 use Rattle.lists.specs.Lists.{range, any, place, lowest}
@@ -45,6 +45,34 @@ module _ {A : Type 0} (d : A) (f : A → Bool) where
       go true e i h t ih = zero-le
       go false e zero h t ih = absurd (subst T e t)
       go false e (suc i) h t ih = suc-le-suc (ih i (le-of-suc-le-suc h) t)
+
+-- the place in a list whose elements are made of another's
+pub place-map : {A B : Type 0} (f : B → Bool) (g : A → B) (l : List A) → place f (map g l) ≡ place (λ x. f (g x)) l
+unfolding place
+place-map f g [] = refl
+place-map f g (x ∷ l) = ap (λ (k : ℕ). cond (f (g x)) 0 (suc k)) (place-map f g l)
+
+-- a scan of a range: the numbers before k were looked at, and none of them passes
+module _ (f : ℕ → Bool) where
+  place-from : (i k n : ℕ) → k < n → ((j : ℕ) → i ≤ j → j < i + k → f j ≡ false) → f (i + k) ≡ true → k ≡ place f (range i n)
+  unfolding place range
+  place-from i zero zero l h e = absurd (not-suc-le-zero l)
+  place-from i zero (suc n) l h e = rw (rw add-zero at e)
+  place-from i (suc k) zero l h e = absurd (not-suc-le-zero l)
+  place-from i (suc k) (suc n) l h e =
+      let next : i + suc k ≡ suc i + k = omega arith in
+      rw (h i (omega arith) (omega arith)) (ap suc (place-from (suc i) k n (le-of-suc-le-suc l) (λ j a b. h j (omega arith) (omega arith)) (rw next at e)))
+
+  none-from : (i n : ℕ) → ((j : ℕ) → i ≤ j → j < i + n → f j ≡ false) → n ≡ place f (range i n)
+  unfolding place range
+  none-from i zero h = refl
+  none-from i (suc n) h = rw (h i (omega arith) (omega arith)) (ap suc (none-from (suc i) n (λ j a b. h j (omega arith) (omega arith))))
+
+  pub place-found : (k n : ℕ) → k < n → ((j : ℕ) → j < k → f j ≡ false) → f k ≡ true → k ≡ place f (range 0 n)
+  place-found k n l h e = place-from 0 k n l (λ j a b. h j (omega arith)) (rw zero-add e)
+
+  pub place-none : (n : ℕ) → ((j : ℕ) → j < n → f j ≡ false) → n ≡ place f (range 0 n)
+  place-none n h = none-from 0 n (λ j a b. h j (omega arith))
 
 -- ---- the number itself
 

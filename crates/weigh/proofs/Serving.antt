@@ -12,6 +12,7 @@ use Rattle.lists.specs.Lists.{range, on, sum, any}
 use Rattle.lists.proofs.Tests.{and-T}
 use Rattle.rows.specs.Rows.{marked, linkedIn, Meet, Minus, locationsMax}
 use Rattle.graph.specs.Held.{heldIn, SlotsOnly}
+use Rattle.graph.specs.Chains.{Reached}
 use Rattle.graph.specs.Steps.{Walked}
 use Rattle.picture.specs.Layout.{endpointsMax}
 use Rattle.picture.specs.declared.Header.{Header}
@@ -54,23 +55,16 @@ module _ (p : Picture) (b : ℕ) (holding nearby block left : List ℕ) (s : Slo
 -- ---- service
 
 -- an endpoint is served exactly where its row has a mark in common with the row of what is reached
-pub serving : (p : Picture) (held : ℕ → Bool) (table : List (List ℕ)) (row parent depth : List ℕ) → Named p
-    → RowsOf (suc endpointsMax) (λ c a. joins (p .serviceLinks) a c) table
-    → Walked (joins (p .links)) held (marked row) parent depth → Meets table row (served p (marks p held))
+pub serving : (p : Picture) (held : ℕ → Bool) {table : List (List ℕ)} {row : List ℕ} → Named p → RowsOf (suc endpointsMax) (λ c a. joins (p .serviceLinks) a c) table
+    → ((v : ℕ) → T (marked row v) → Reached (joins (p .links)) held v) → ((v : ℕ) → Reached (joins (p .links)) held v → T (marked row v)) → Meets table row (served p (marks p held))
 unfolding linkedIn
-serving p held table row parent depth n t w = record { meet = meet }
+serving p held {table} {row} n t marks-reached reached-marks = record { meet = meet }
   where
     meet : (c : ℕ) → Meet (getD table c []) row (served p (marks p held) c)
     meet c =
         record {
-          common =
-              λ s.
-              let r = marked-served p held c s in
-              (r .location, subst T (sym (t .same c (r .location))) (r .serves), w .reached-marks (r .location) (r .reached));
-          apart =
-              λ s v a b.
-              T-not (served p (marks p held) c) s
-              (served-marked n (record { location = v; serves = subst T (t .same c v) a; reached = w .marks-reached v b }));
+          common = λ s. let r = marked-served p held c s in (r .location, subst T (sym (t .same c (r .location))) (r .serves), reached-marks (r .location) (r .reached));
+          apart = λ s v a b. T-not (served p (marks p held) c) s (served-marked n (record { location = v; serves = subst T (t .same c v) a; reached = marks-reached v b }));
         }
 
 -- nothing is served by nothing
@@ -100,33 +94,43 @@ module _ (p : Picture) (weights guarded : List ℕ) (e : EndpointsOf p weights g
 pub all-served : (p : Picture) (f : ℕ → Bool) → weightWhere p (λ c. f c && not false) ≡ weightWhere p f
 all-served p f = ap (weightWhere p) (fun-ext (λ c. and-true (f c)))
 
--- ---- what weighing gives
+-- ---- what weighing gives, by the rows of what is reached
 
-module _ (p : Picture) (table : List (List ℕ)) (weights guarded : List ℕ) (d : ℕ) (named : Named p)
-    (t : RowsOf (suc endpointsMax) (λ c a. joins (p .serviceLinks) a c) table) (e : EndpointsOf p weights guarded)
-    (many : d ≡ endpointCount p) (row parent depth : List ℕ) (now : Walked (joins (p .links)) (isHeld p) (marked row) parent depth) where
-  pub served-value : (none : List ℕ) (w m : ℕ) → ((v : ℕ) → ¬ T (marked none v)) → LostBetween table weights guarded d row none w m → w ≡ servedWeight p
+module _ {p : Picture} {table : List (List ℕ)} {weights guarded : List ℕ} {d : ℕ} (e : EndpointsOf p weights guarded) (many : d ≡ endpointCount p) {row : List ℕ}
+    (now : Meets table row (served p (marks p (isHeld p)))) where
+  pub served-met : {none : List ℕ} {w m : ℕ} → ((v : ℕ) → ¬ T (marked none v)) → LostBetween table weights guarded d row none w m → w ≡ servedWeight p
   unfolding servedWeight
-  served-value none w m n l =
-      l .weighs (served p (marks p (isHeld p))) (λ _. false) (serving p (isHeld p) table row parent depth named t now) (none-served table none n)
+  served-met {none} n l =
+      l .weighs (served p (marks p (isHeld p))) (λ _. false) now (none-served table none n)
       ∙ between-weight p weights guarded e d many (served p (marks p (isHeld p))) (λ _. false) ∙ all-served p (served p (marks p (isHeld p)))
 
-  module _ (b : ℕ) (row′ parent′ depth′ : List ℕ) (without : Walked (joins (p .links)) (heldWithout p b) (marked row′) parent′ depth′) (w m : ℕ)
-      (l : LostBetween table weights guarded d row row′ w m) where
+  module _ (b : ℕ) {row′ : List ℕ} (without : Meets table row′ (served p (marks p (heldWithout p b)))) {w m : ℕ} (l : LostBetween table weights guarded d row row′ w m) where
     before : ℕ → Bool
     before = served p (marks p (isHeld p))
 
     after : ℕ → Bool
     after = served p (marks p (heldWithout p b))
 
-    pub loss-value : w ≡ weighed p b .loss
+    pub loss-met : w ≡ weighed p b .loss
     unfolding weighed cut before after
-    loss-value =
-        l .weighs before after (serving p (isHeld p) table row parent depth named t now) (serving p (heldWithout p b) table row′ parent′ depth′ named t without)
-        ∙ between-weight p weights guarded e d many before after
+    loss-met = l .weighs before after now without ∙ between-weight p weights guarded e d many before after
+
+    pub mark-met : m ≡ weighed p b .mark
+    unfolding weighed cut before after
+    mark-met = l .marks before after now without ∙ between-mark p weights guarded e d many before after
+
+-- the same of walks
+module _ (p : Picture) (table : List (List ℕ)) (weights guarded : List ℕ) (d : ℕ) (named : Named p) (t : RowsOf (suc endpointsMax) (λ c a. joins (p .serviceLinks) a c) table) (e : EndpointsOf p weights guarded)
+    (many : d ≡ endpointCount p) (row parent depth : List ℕ) (now : Walked (joins (p .links)) (isHeld p) (marked row) parent depth) where
+  met : Meets table row (served p (marks p (isHeld p)))
+  met = serving p (isHeld p) named t (now .marks-reached) (now .reached-marks)
+
+  pub served-value : (none : List ℕ) (w m : ℕ) → ((v : ℕ) → ¬ T (marked none v)) → LostBetween table weights guarded d row none w m → w ≡ servedWeight p
+  served-value none w m n l = served-met e many met n l
+
+  module _ (b : ℕ) (row′ parent′ depth′ : List ℕ) (without : Walked (joins (p .links)) (heldWithout p b) (marked row′) parent′ depth′) (w m : ℕ) (l : LostBetween table weights guarded d row row′ w m) where
+    pub loss-value : w ≡ weighed p b .loss
+    loss-value = loss-met e many met b (serving p (heldWithout p b) named t (without .marks-reached) (without .reached-marks)) l
 
     pub mark-value : m ≡ weighed p b .mark
-    unfolding weighed cut before after
-    mark-value =
-        l .marks before after (serving p (isHeld p) table row parent depth named t now) (serving p (heldWithout p b) table row′ parent′ depth′ named t without)
-        ∙ between-mark p weights guarded e d many before after
+    mark-value = mark-met e many met b (serving p (heldWithout p b) named t (without .marks-reached) (without .reached-marks)) l

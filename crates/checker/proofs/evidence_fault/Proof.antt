@@ -1,52 +1,56 @@
 -- `evidence_fault` judges the form, the parts and the verdict, in this order. Assumes nothing.
-use mathlib.Core.Path.{_≡_, sym, ap, ap₂, _∙_}
+use mathlib.Core.Path.{_≡_, sym, ap, _∙_}
 use mathlib.Core.Bool.{true}
 use mathlib.Core.List.{List}
-use Prim.Native.Nat.{ℕ, _/_}
+use Prim.Native.Nat.{ℕ}
 use native.Mathlib.Omega.{arith}
 use native.Mathlib.Nat.{div-mul-le-self}
 use borrow.Author.Tests.{not-true, not-false}
 use lib.ListN.{length}
 use Rattle.picture.specs.Layout.{edition1}
-use Rattle.picture.specs.Picture.{pictureOf}
+use Rattle.picture.specs.Picture.{Picture, pictureOf}
 use Rattle.picture.proofs.Facts.{read-sizes}
 use Rattle.network.specs.Tests.{candidates}
+use Rattle.network.proofs.Candidates.{marked-candidates}
 use Rattle.network.proofs.Blocks.{read-slots, read-block-size, read-blocks}
-use Rattle.evidence.specs.Checks.{formRight, verdictRight}
 use Rattle.evidence.specs.Canonical.{weighings}
-use Rattle.checker.specs.Following.{partsFault}
-use Rattle.checker.specs.Forming.{blocksMarked, formTest}
-use Rattle.checker.proofs.Forms.{marked-candidates, form-tested}
-use Rattle.checker.proofs.Places.{few-candidates}
+use Rattle.evidence.specs.Checks.{formRight, verdictRight}
+use Rattle.evidence.proofs.Fields.{candidates-few}
+use Rattle.checker.proofs.Forms.{form-tested}
 use Rattle.checker.proofs.Answering.{check-form, check-part, check-verdict, check-none, stated-weighings}
 use borrow.Author.Needs.{needs}
 use Rattle.checker.proofs.evidence_fault.Statement.{statement}
 use Rattle.checker.proofs.evidence_fault.Tie as tie
 
--- the blocks that were found are the candidates
-found : (c : tie.After-form-of) → blocksMarked (c .before .before .before .slot-rows .result .near) (c .before .before .before .before .before .before .args .h .«block_size») (c .before .before .before .before .before .before .args .h .slots / c .before .before .before .before .before .before .args .h .«block_size») ≡ candidates (pictureOf (c .before .before .before .before .before .before .args .s .now))
-found c = marked-candidates (pictureOf (c .before .before .before .before .before .before .args .s .now)) _ _ (c .before .before .before .slot-rows .ensures) _ _ (sym (read-block-size _ _ (c .before .before .before .before .before .before .pre))) (read-blocks _ _ (c .before .before .before .before .before .before .pre))
+-- the picture and the evidence
+abbrev start : tie.After-form-of → tie.Start
+start c = c .before .before .before .before .before .before
 
-form-same : (c : tie.After-form-of) → c .form-of .result .right ≡ formRight edition1 (pictureOf (c .before .before .before .before .before .before .args .s .now)) (c .before .before .before .before .before .before .args .ev .now)
-form-same c =
-    c .form-of .ensures .0 ∙ ap₂ (λ (k : ℕ) (l : List ℕ). formTest k (c .before .before .before .before .before .before .args .ev .now) l) (sym (read-slots _ _ (c .before .before .before .before .before .before .pre))) (found c)
-    ∙ form-tested (pictureOf (c .before .before .before .before .before .before .args .s .now)) (c .before .before .before .before .before .before .args .ev .now)
+abbrev shown : tie.After-form-of → Picture
+shown c = pictureOf (start c .args .s .now)
 
-count-same : (c : tie.After-form-of) → c .form-of .result .count ≡ length (candidates (pictureOf (c .before .before .before .before .before .before .args .s .now)))
-count-same c = c .form-of .ensures .1 ∙ ap length (found c)
+abbrev evidence : tie.After-form-of → List ℕ
+evidence c = start c .args .ev .now
 
-formed : (c : tie.Else1) → formRight edition1 (pictureOf (c .before .before .before .before .before .before .before .args .s .now)) (c .before .before .before .before .before .before .before .args .ev .now) ≡ true
-formed c = sym (form-same (c .before)) ∙ not-false _ (c .if1 .left)
+-- the blocks that were found are the candidates, and the test of the form was made for them
+found : (c : tie.After-form-of) → let r = c .form-of .result in (r .right ≡ formRight edition1 (shown c) (evidence c)) × (r .count ≡ length (candidates (shown c)))
+found c =
+    let r = start c .pre in
+    let e = marked-candidates (c .before .before .before .slot-rows .ensures) (read-block-size _ _ r) (sym (read-blocks _ _ r)) in
+    let f = rw (e, ← read-slots _ _ r) at (c .form-of .ensures) in
+    (f .0 ∙ form-tested (shown c) (evidence c), f .1)
+
+formed : (c : tie.Else1) → formRight edition1 (shown (c .before)) (evidence (c .before)) ≡ true
+formed c = sym (found (c .before) .0) ∙ not-false _ (c .if1 .left)
 
 -- no part has a fault, so the sections state what the candidates weigh
-no-part : (c : tie.Else2) → 0 ≡ partsFault (c .before .before .before .before .before .before .before .before .before .args .s .now) (c .before .before .before .before .before .before .before .before .before .args .ev .now)
-no-part c = sym (c .if2 .left) ∙ c .before .parts-fault .ensures
-
-verdict-same : (c : tie.After-verdict-right) → c .verdict-right .result ≡ verdictRight (c .before .before .before .before .before .before .before .before .before .before .args .ev .now) (weighings (pictureOf (c .before .before .before .before .before .before .before .before .before .before .args .s .now)))
-verdict-same c =
+judged : (c : tie.After-verdict-right) → let f = c .before .before .before .before in c .verdict-right .result ≡ verdictRight (evidence f) (weighings (shown f))
+judged c =
+    let n = c .before in
+    let f = n .before .before .before in
+    let r = start f .pre in
     c .verdict-right .ensures
-    ∙ ap (verdictRight (c .before .before .before .before .before .before .before .before .before .before .args .ev .now))
-    (stated-weighings _ _ (c .before .before .before .before .before .before .before .before .before .before .pre .accepted) (formed (c .before .before .before)) (no-part (c .before)) _ _ (sym (read-slots _ _ (c .before .before .before .before .before .before .before .before .before .before .pre))) (count-same (c .before .before .before .before)))
+    ∙ ap (verdictRight (evidence f)) (stated-weighings _ _ (r .accepted) (formed (n .before .before)) (sym (n .if2 .left) ∙ n .before .parts-fault .ensures) (read-slots _ _ r) (found f .1))
 
 slot-rows-requires : tie.Need-slot-rows-requires
 slot-rows-requires c κs = search needs
@@ -60,22 +64,33 @@ form-of-requires c κs =
     (z .slots-most, z .blocks-most, div-mul-le-self _ _)
 
 returns : tie.Need-returns
-returns c = check-form _ _ (c .before .before .before .before .before .before .before .pre .accepted) (sym (form-same (c .before)) ∙ not-true _ (c .if1 .taken))
+returns c = check-form _ _ (start (c .before) .pre .accepted) (sym (found (c .before) .0) ∙ not-true _ (c .if1 .taken))
 
 parts-fault-requires : tie.Need-parts-fault-requires
-parts-fault-requires c κs = (c .before .before .before .before .before .before .before .pre, (c .before .before .before .before .slot-rows .result .near, c .before .before .before .before .slot-rows .ensures), formed c, count-same (c .before))
+parts-fault-requires c κs =
+    let s = c .before .before .before .before .slot-rows in
+    (start (c .before) .pre, (s .result .near, s .ensures), formed c, found (c .before) .1)
 
 returns-2 : tie.Need-returns-2
-returns-2 c = check-part _ _ (c .before .before .before .before .before .before .before .before .before .pre .accepted) (formed (c .before .before)) _ (c .if2 .taken) (c .before .parts-fault .ensures)
+returns-2 c = let e = c .before .before in check-part _ _ (start (e .before) .pre .accepted) (formed e) (c .if2 .taken) (c .before .parts-fault .ensures)
 
 verdict-right-requires : tie.Need-verdict-right-requires
-verdict-right-requires c κs = (read-sizes _ _ (c .before .before .before .before .before .before .before .before .before .pre) .slots-most, omega (arith, count-same (c .before .before .before), few-candidates _ _ (c .before .before .before .before .before .before .before .before .before .pre)))
+verdict-right-requires c κs =
+    let f = c .before .before .before in
+    let r = start f .pre in
+    (read-sizes _ _ r .slots-most, omega (arith, found f .1, candidates-few _ (r .accepted)))
 
 returns-3 : tie.Need-returns-3
-returns-3 c = check-none _ _ (c .before .before .before .before .before .before .before .before .before .before .before .pre .accepted) (formed (c .before .before .before .before)) (no-part (c .before .before)) (sym (verdict-same (c .before)) ∙ c .if3 .taken)
+returns-3 c =
+    let n = c .before .before in
+    let e = n .before .before in
+    check-none _ _ (start (e .before) .pre .accepted) (formed e) (sym (n .if2 .left) ∙ n .before .parts-fault .ensures) (sym (judged (c .before)) ∙ c .if3 .taken)
 
 returns-4 : tie.Need-returns-4
-returns-4 c = check-verdict _ _ (c .before .before .before .before .before .before .before .before .before .before .before .pre .accepted) (formed (c .before .before .before .before)) (no-part (c .before .before)) (sym (verdict-same (c .before)) ∙ c .if3 .left)
+returns-4 c =
+    let n = c .before .before in
+    let e = n .before .before in
+    check-verdict _ _ (start (e .before) .pre .accepted) (formed e) (sym (n .if2 .left) ∙ n .before .parts-fault .ensures) (sym (judged (c .before)) ∙ c .if3 .left)
 
 pub evidence-fault-spec : {M : Type 1} → statement M
 evidence-fault-spec =

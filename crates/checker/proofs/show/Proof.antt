@@ -3,15 +3,16 @@ use mathlib.Core.Path.{_≡_, ap, ap₂}
 use Prim.Native.Nat.{ℕ, _+_, _-_, _≤_}
 use native.Mathlib.Omega.{arith}
 use lib.ListN.{length, take, drop}
+use Rattle.evidence.specs.declared.Part.{Part}
 use Rattle.evidence.specs.Calls.{shownPart, shown}
-use Rattle.checker.proofs.Showing.{shown-room}
+use Rattle.evidence.proofs.Showing.{shown-room}
 use borrow.Author.Needs.{needs}
 use Rattle.checker.proofs.show.Statement.{statement}
 use Rattle.checker.proofs.show.Tie as tie
 
 -- the part is within the evidence
 room : (c : tie.After-shown-part) → c .shown-part .result .start + c .shown-part .result .size ≤ length (c .before .before .before .args .ev .now)
-room c = rw (c .shown-part .ensures .0, c .shown-part .ensures .1) (shown-room (c .before .before .before .args .s .now) (c .before .before .before .args .ev .now))
+room c = rw (c .shown-part .ensures) (shown-room _ _)
 
 shown-part-requires : tie.Need-shown-part-requires
 shown-part-requires c κs = search needs
@@ -33,8 +34,9 @@ unfolding shown
 returns c =
     let r = c .before .before .shown-part in
     let a = c .before .before .before .before .before .args in
-    let e : r .result .start + r .result .size - r .result .start ≡ shownPart (a .s .now) (a .ev .now) .size = omega (arith, r .ensures .1) in
-    (ap₂ (λ (k i : ℕ). take k (drop i (a .ev .now))) e (r .ensures .0), ap (λ (k : ℕ). (a .ev .ptr .0, k)) (omega (arith, r .ensures .0)))
+    let start = ap (λ (x : Part). x .start) (r .ensures) in
+    let size : r .result .start + r .result .size - r .result .start ≡ shownPart (a .s .now) (a .ev .now) .size = omega (arith, ap (λ (x : Part). x .size) (r .ensures)) in
+    (ap₂ (λ (k i : ℕ). take k (drop i (a .ev .now))) size start, ap (λ (k : ℕ). (a .ev .ptr .0, k)) (omega (arith, start)))
 
 pub show-spec : {M : Type 1} → statement M
 show-spec =

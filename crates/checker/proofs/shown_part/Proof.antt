@@ -1,35 +1,37 @@
 -- `shown_part` finds the chosen candidate's section. Assumes nothing.
-use mathlib.Core.Path.{_≡_, sym, ap, ap₂, _∙_}
-use Prim.Native.Nat.{ℕ, _/_, _≤_}
+use mathlib.Core.Path.{_≡_, sym, _∙_}
 use native.Mathlib.Omega.{arith}
-use Rattle.bits.proofs.Reading.{fieldAt-lt}
-use Rattle.lists.specs.Lists.{sum}
-use Rattle.rows.specs.Rows.{slotsMax}
-use Rattle.picture.specs.Layout.{fieldIn}
 use Rattle.picture.specs.Inner.{Read}
 use Rattle.picture.proofs.Answering.{accepted-read, refused-fault}
 use Rattle.picture.proofs.Facts.{read-sizes}
 use Rattle.network.proofs.Blocks.{read-slots}
-use Rattle.evidence.specs.Layout.{headWidths}
-use Rattle.evidence.specs.Checks.{headIn}
-use Rattle.evidence.specs.Calls.{Part}
-use Rattle.checker.specs.Forming.{blocksBelow}
+use Rattle.evidence.specs.Checks.{checkFault}
+use Rattle.evidence.proofs.Showing.{namedAt, shown-failed, shown-none, shown-part}
 use Rattle.checker.proofs.Answering.{check-picture}
-use Rattle.checker.proofs.Showing.{below-le, shown-failed, shown-none, shown-start, shown-size}
+use Rattle.checker.proofs.Showing.{count-few, named-few, named-section}
 use borrow.Author.Needs.{needs}
 use Rattle.checker.proofs.shown_part.Statement.{statement}
 use Rattle.checker.proofs.shown_part.Tie as tie
 
 -- the header that was read is the picture's
-accepted : (c : tie.After-h) → Read (c .before .before .before .before .before .args .s .now) (c .h .given .0 .0)
+abbrev start : tie.After-h → tie.Start
+start c = c .before .before .before .before .before
+
+accepted : (c : tie.After-h) → Read (start c .args .s .now) (c .h .given .0 .0)
 accepted c = accepted-read _ _ (sym (c .h .given .1) ∙ c .before .before .read .ensures .0)
 
-few : (c : tie.After-h) → c .h .given .0 .0 .slots ≤ slotsMax
-few c = read-sizes _ _ (accepted c) .slots-most
+-- the check passes
+abbrev read : tie.Else1 → tie.After-h
+read c = c .before .before .before
 
--- the empty part
-empty : {p : Part} → p ≡ record { start = 0; size = 0 } → (0 ≡ p .start) × (0 ≡ p .size)
-empty e = (sym (ap (λ (x : Part). x .start) e), sym (ap (λ (x : Part). x .size) e))
+passed : (c : tie.Else1) → let a = start (read c) .args in checkFault (a .s .now) (a .ev .now) ≡ 0
+passed c = sym (c .before .evidence-fault .ensures) ∙ c .if1 .left
+
+-- and the section is that of the block that is named
+named : (c : tie.After-section-named) → let a = start (read (c .before .before .before .before)) .args in c .section-named .result ≡ namedAt (a .s .now) (a .ev .now)
+named c =
+    let e = c .before .before .before .before in
+    c .section-named .ensures ∙ rw (c .before .before .before .head-of .ensures) (named-section _ _ (passed e) (read-slots _ _ (accepted (read e))))
 
 read-requires : tie.Need-read-requires
 read-requires c κs = search needs
@@ -44,50 +46,38 @@ evidence-fault-requires : tie.Need-evidence-fault-requires
 evidence-fault-requires c κs = accepted (c .before)
 
 returns : tie.Need-returns
-returns c = empty (shown-failed _ _ (λ z. c .if1 .taken (c .before .evidence-fault .ensures ∙ z)))
+returns c = sym (shown-failed _ _ (λ z. c .if1 .taken (c .before .evidence-fault .ensures ∙ z)))
 
-field-requires : tie.Need-field-requires
-field-requires c κs = search needs
+head-of-requires : tie.Need-head-of-requires
+head-of-requires c κs = search needs
 
 returns-2 : tie.Need-returns-2
-unfolding headIn headWidths fieldIn sum
-returns-2 c = empty (shown-none _ _ (λ z. c .if2 .taken (c .before .field .ensures ∙ z)))
+returns-2 c = sym (shown-none _ _ (rw (← c .before .before .head-of .ensures) (c .if2 .taken)))
 
-field-requires-2 : tie.Need-field-requires-2
-field-requires-2 c κs = search needs
-
-field-requires-3 : tie.Need-field-requires-3
-field-requires-3 c κs = search needs
-
-sections-below-requires : tie.Need-sections-below-requires
-sections-below-requires c κs = (few (c .before .before .before .before .before .before .before), omega (arith, c .before .field2 .ensures, fieldAt-lt (c .before .before .before .before .before .before .before .before .before .before .before .before .args .ev .now) 16 8))
+section-named-requires : tie.Need-section-named-requires
+section-named-requires c κs =
+    let e = c .before .before .before in
+    (read-sizes _ _ (accepted (read e)) .slots-most, rw (c .before .before .head-of .ensures) (omega (arith, count-few _ _ (passed e))))
 
 section-at-requires : tie.Need-section-at-requires
-section-at-requires c κs = (few (c .before .before .before .before .before .before .before .before), omega (arith, c .sections-below .ensures, below-le (c .before .before .before .before .before .before .before .before .h .given .0 .0 .slots) (c .before .before .before .before .before .before .before .before .before .before .before .before .before .args .ev .now) (c .before .before .field2 .result) (c .before .field3 .result), c .before .before .field2 .ensures, fieldAt-lt (c .before .before .before .before .before .before .before .before .before .before .before .before .before .args .ev .now) 16 8))
+section-at-requires c κs =
+    let e = c .before .before .before .before in
+    (read-sizes _ _ (accepted (read e)) .slots-most, omega (arith, named c, named-few _ _ (passed e)))
 
-mul-t14 : tie.Need-mul-t14
-mul-t14 c = omega (arith, few (c .before .before .before .before .before .before .before .before .before))
-
-add-t15 : tie.Need-add-t15
-add-t15 c = omega (arith, few (c .before .before .before .before .before .before .before .before .before))
+section-bytes-requires : tie.Need-section-bytes-requires
+section-bytes-requires c κs = read-sizes _ _ (accepted (read (c .before .before .before .before .before))) .slots-most
 
 returns-3 : tie.Need-returns-3
 returns-3 c =
     let r = refused-fault _ _ (sym (c .enum-told .given .1) ∙ c .before .before .read .ensures .0) in
-    empty (shown-failed _ _ (λ z. r .1 (check-picture _ _ _ (r .1) (r .0) ∙ z)))
+    sym (shown-failed _ _ (λ z. r .1 (check-picture _ _ r ∙ z)))
 
 returns-4 : tie.Need-returns-4
-unfolding headIn headWidths fieldIn sum
 returns-4 c =
-    let a = c .before .before .before .before .before .before .before .before .before .before .before .before .before .before .args in
-    let n = c .before .before .before .before .before .before .before .before .before .h .given .0 .0 .slots in
-    let passed = sym (c .before .before .before .before .before .before .before .evidence-fault .ensures) ∙ c .before .before .before .before .before .before .if1 .left in
-    let chosen = sym (c .before .before .before .before .before .field .ensures) ∙ c .before .before .before .before .if2 .left in
-    let many = sym (read-slots _ _ (accepted (c .before .before .before .before .before .before .before .before .before))) in (
-      ap (λ (x : ℕ). x / 8) (c .section-at .ensures)
-          ∙ shown-start (a .s .now) (a .ev .now) passed chosen n (c .before .sections-below .result) many (c .before .sections-below .ensures ∙ ap₂ (λ (x y : ℕ). blocksBelow n (a .ev .now) x y) (c .before .before .before .field2 .ensures) (c .before .before .field3 .ensures)),
-      shown-size (a .s .now) (a .ev .now) passed chosen n many,
-    )
+    let n = c .before .before in
+    let e = n .before .before .before .before in
+    let one = rw (n .before .before .before .head-of .ensures) at (n .before .if2 .left) in
+    rw (c .section-bytes .ensures, c .before .section-at .ensures, named n) (sym (rw (read-slots _ _ (accepted (read e))) at (shown-part _ _ (passed e) one)))
 
 pub shown-part-spec : {M : Type 1} → statement M
 shown-part-spec =
@@ -98,13 +88,10 @@ shown-part-spec =
     enum-known-h
     evidence-fault-requires
     returns
-    field-requires
+    head-of-requires
     returns-2
-    field-requires-2
-    field-requires-3
-    sections-below-requires
+    section-named-requires
     section-at-requires
-    mul-t14
-    add-t15
+    section-bytes-requires
     returns-3
     returns-4)

@@ -1,37 +1,36 @@
--- `sections_below` counts the sections of lower blocks. Assumes nothing.
-use mathlib.Core.Path.{_≡_, refl, sym, ap, ap₂, _∙_}
-use mathlib.Core.Logic.{⊎-elim}
-use Prim.Native.Nat.{ℕ, _+_, _-_, _≤_}
+-- `section_named` looks for the first section of a block. Assumes nothing.
+use mathlib.Core.Path.{_≡_, _∙_}
+use mathlib.Core.Bool.{false}
+use Prim.Native.Nat.{ℕ, _-_, _≤_, _<_}
 use native.Mathlib.Omega.{arith}
-use mathlib.Core.Bool.{Bool}
-use native.Mathlib.Nat.{add-zero}
-use borrow.Author.Tests.{lt-ltb, le-ltb}
-use Rattle.lists.specs.Lists.{range, on, sum}
-use Rattle.checker.specs.Forming.{blocksBelow}
-use Rattle.evidence.proofs.Places.{block-at}
-use Rattle.checker.proofs.Showing.{below-more}
+use borrow.Author.Count.{below-none, below-more}
+use borrow.Author.Tests.{eq-eqb, ne-eqb}
+use lib.Dec.{eqb}
+use Rattle.lists.proofs.Searches.{place-found, place-none}
+use Rattle.picture.specs.Layout.{edition1}
+use Rattle.evidence.specs.Checks.{sectionIn}
+use Rattle.checker.specs.Verdict.{sectionNamed}
 use borrow.Author.Needs.{needs}
-use Rattle.checker.proofs.forming.sections_below.Statement.{statement}
-use Rattle.checker.proofs.forming.sections_below.Tie as tie
+use Rattle.checker.proofs.verdict.section_named.Statement.{statement}
+use Rattle.checker.proofs.verdict.section_named.Tie as tie
 
 abbrev Inv-loop : tie.InvT-loop
-Inv-loop ev n count b below₀ i₀ below i = (i ≤ count) × (below ≤ i) × (below ≡ blocksBelow n ev i b)
+Inv-loop ev n count b i₀ i = (i ≤ count) × ((j : ℕ) → j < i → eqb (sectionIn edition1 n ev j .block) b ≡ false)
 
 abbrev μ-loop : tie.MeasureT-loop
-μ-loop ev n count b below₀ i₀ below i = count - i
+μ-loop ev n count b i₀ i = count - i
 
 loop-holds : tie.Need-loop-holds Inv-loop μ-loop
-unfolding blocksBelow range sum
-loop-holds c = (omega arith, omega arith, refl)
+loop-holds c = (omega arith, below-none _)
 
-section-at-requires : tie.Need-section-at-requires Inv-loop μ-loop
-section-at-requires c κs = search needs
+section-of-requires : tie.Need-section-of-requires Inv-loop μ-loop
+section-of-requires c κs = search needs
 
-field-requires : tie.Need-field-requires Inv-loop μ-loop
-field-requires c κs = search needs
-
-add-below : tie.Need-add-below Inv-loop μ-loop
-add-below c = search needs
+returns : tie.Need-returns Inv-loop μ-loop
+unfolding sectionNamed
+returns c =
+    let l = c .before .before .before .before .loop in
+    place-found _ (l .i) _ (c .before .before .before .loop-test .taken) (l .inv .1) (rw (← c .before .before .section-of .ensures, eq-eqb _ _ (c .if1 .taken)))
 
 add-i : tie.Need-add-i Inv-loop μ-loop
 add-i c = search needs
@@ -40,36 +39,24 @@ loop-less : tie.Need-loop-less Inv-loop μ-loop
 loop-less c = search needs
 
 loop-again : tie.Need-loop-again Inv-loop μ-loop
-unfolding on
 loop-again c =
     let l = c .before .before .before .before .loop in
-    let a = c .before .before .before .before .before .before .args in
-    let e = c .before .field .ensures ∙ block-at (a .n) (a .ev .now) (l .i) (c .before .before .section-at .ensures) in
-    let more = below-more (a .n) (a .ev .now) (l .i) (a .b) in (
-      omega (arith, c .before .before .before .loop-test .taken),
-      ⊎-elim (λ w. omega (arith, w .1, l .inv .1)) (λ w. omega (arith, w .1, l .inv .1)) (c .if1 .came),
-      ⊎-elim
-          (λ w. w .1 ∙ ap₂ (λ (x y : ℕ). x + y) (l .inv .2) (sym (ap (λ (t : Bool). on t 1) (lt-ltb _ _ (rw e at (w .0 .taken))))) ∙ sym more)
-          (λ w. w .1 ∙ l .inv .2 ∙ sym (add-zero _) ∙ ap (λ (y : ℕ). blocksBelow (a .n) (a .ev .now) (l .i) (a .b) + y) (sym (ap (λ (t : Bool). on t 1) (le-ltb _ _ (rw e at (w .0 .left))))) ∙ sym more)
-          (c .if1 .came),
-    )
+    (omega (arith, c .before .before .before .loop-test .taken), below-more _ _ (l .inv .1) (rw (← c .before .before .section-of .ensures, ne-eqb _ _ (c .if1 .left))))
 
-returns : tie.Need-returns Inv-loop μ-loop
-returns c =
-    let a = c .before .before .before .args in
-    c .before .loop .inv .2 ∙ ap (λ (k : ℕ). blocksBelow (a .n) (a .ev .now) k (a .b)) (omega (arith, c .before .loop .inv .0, c .loop-test .left))
+returns-2 : tie.Need-returns-2 Inv-loop μ-loop
+unfolding sectionNamed
+returns-2 c = place-none _ _ (λ j h. c .before .loop .inv .1 j (omega (arith, c .loop-test .left)))
 
-pub sections-below-spec : {M : Type 1} → statement M
-sections-below-spec =
+pub section-named-spec : {M : Type 1} → statement M
+section-named-spec =
     tie.close
     (tie.spec
     Inv-loop
     μ-loop
     loop-holds
-    section-at-requires
-    field-requires
-    add-below
+    section-of-requires
+    returns
     add-i
     loop-less
     loop-again
-    returns)
+    returns-2)

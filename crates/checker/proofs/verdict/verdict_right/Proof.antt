@@ -1,113 +1,77 @@
 -- `verdict_right` compares the head with what the sections imply. Assumes nothing.
-use mathlib.Core.Path.{_≡_, sym, ap, _∙_}
-use mathlib.Core.Bool.{Bool, true, false, _||_}
-use mathlib.Core.Logic.{_⊎_, inl, inr, ⊎-elim}
-use Prim.Native.Nat.{ℕ, _-_}
-use native.Mathlib.Omega.{arith}
-use lib.Dec.{eqb}
-use Rattle.lists.specs.Lists.{sum}
-use Rattle.picture.specs.Layout.{fieldIn}
-use Rattle.evidence.specs.Layout.{headWidths}
-use Rattle.evidence.specs.Checks.{headIn}
-use Rattle.evidence.proofs.Places.{block-at, loss-at, mark-at, section-small}
+use mathlib.Core.Path.{_≡_}
+use mathlib.Core.Bool.{_||_, or-true, or-false}
+use mathlib.Core.Logic.{⊎-elim}
+use Prim.Native.Nat.{_-_}
 use Rattle.checker.proofs.Verdicts.{Implied, implied-begun, implied-next, verdict-differs, loss-differs, none-right, chosen-right}
 use borrow.Author.Needs.{needs}
-use Rattle.checker.proofs.forming.verdict_right.Statement.{statement}
-use Rattle.checker.proofs.forming.verdict_right.Tie as tie
+use Rattle.checker.proofs.verdict.verdict_right.Statement.{statement}
+use Rattle.checker.proofs.verdict.verdict_right.Tie as tie
 
 abbrev Inv-loop : tie.InvT-loop
-Inv-loop ev n count block loss verdict₀ least₀ named₀ i₀ verdict least named i = Implied n ev count block loss verdict least named i
+Inv-loop ev n count head best₀ named₀ i₀ best named i = Implied n ev count head best named i
 
 abbrev μ-loop : tie.MeasureT-loop
-μ-loop ev n count block loss verdict₀ least₀ named₀ i₀ verdict least named i = i
+μ-loop ev n count head best₀ named₀ i₀ best named i = count - i
 
-chosen-now : (c : tie.Joined1 Inv-loop μ-loop)
-    → ((c .before .is-least .result ≡ true) × (c .if1 .verdict ≡ 1) × (c .if1 .least ≡ c .before .before .before .field4 .result)) ⊎ ((c .before .is-least .result ≡ false) × (c .if1 .verdict ≡ c .before .before .before .before .before .before .before .loop .verdict) × (c .if1 .least ≡ c .before .before .before .before .before .before .before .loop .least))
-chosen-now c = ⊎-elim (λ w. inl (w .0 .taken, w .1, w .2)) (λ w. inr (w .0 .left, w .1, w .2)) (c .if1 .came)
-
--- every section was gone over, and the head's block and loss are those that were looked for
-implied : (c : tie.After-loop Inv-loop μ-loop) → Implied (c .before .before .before .before .before .args .n) (c .before .before .before .before .before .args .ev .now) (c .before .before .before .before .before .args .count) (headIn (c .before .before .before .before .before .args .ev .now) .block) (headIn (c .before .before .before .before .before .args .ev .now) .loss) (c .before .loop .verdict) (c .before .loop .least) (c .before .loop .named) 0
-unfolding headIn headWidths fieldIn sum
-implied c =
-    let e : c .before .loop .i ≡ 0 = omega (arith, c .loop-test .left) in
-    rw (e, c .before .before .before .field .ensures, c .before .before .field2 .ensures) at (c .before .loop .inv)
-
-field-requires : tie.Need-field-requires Inv-loop μ-loop
-field-requires c κs = search needs
-
-field-requires-2 : tie.Need-field-requires-2 Inv-loop μ-loop
-field-requires-2 c κs = search needs
+head-of-requires : tie.Need-head-of-requires Inv-loop μ-loop
+head-of-requires c κs = search needs
 
 loop-holds : tie.Need-loop-holds Inv-loop μ-loop
-loop-holds c = implied-begun _ _ _ _ _
+loop-holds c = implied-begun _ _ _ _
 
-sub-i : tie.Need-sub-i Inv-loop μ-loop
-sub-i c = search needs
+section-of-requires : tie.Need-section-of-requires Inv-loop μ-loop
+section-of-requires c κs = search needs
 
-section-at-requires : tie.Need-section-at-requires Inv-loop μ-loop
-section-at-requires c κs = (c .before .before .before .before .before .pre .0, omega (arith, c .before .loop .inv .within, c .before .before .before .before .before .pre .1))
-
-field-requires-3 : tie.Need-field-requires-3 Inv-loop μ-loop
-field-requires-3 c κs = search needs
-
-add-field : tie.Need-add-field Inv-loop μ-loop
-add-field c = omega (arith, c .before .section-at .ensures, section-small (c .before .before .before .before .before .before .before .args .n) (c .before .before .before .loop .i - 1) (c .before .before .before .before .before .before .before .pre .0) (omega (arith, c .before .before .before .loop .inv .within, c .before .before .before .before .before .before .before .pre .1)))
-
-field-requires-4 : tie.Need-field-requires-4 Inv-loop μ-loop
-field-requires-4 c κs = search needs
-
-add-field-2 : tie.Need-add-field-2 Inv-loop μ-loop
-add-field-2 c = omega (arith, c .before .before .section-at .ensures, section-small (c .before .before .before .before .before .before .before .before .args .n) (c .before .before .before .before .loop .i - 1) (c .before .before .before .before .before .before .before .before .pre .0) (omega (arith, c .before .before .before .before .loop .inv .within, c .before .before .before .before .before .before .before .before .pre .1)))
-
-field-requires-5 : tie.Need-field-requires-5 Inv-loop μ-loop
-field-requires-5 c κs = search needs
-
-is-least-requires : tie.Need-is-least-requires Inv-loop μ-loop
-is-least-requires c κs = search needs
+better-requires : tie.Need-better-requires Inv-loop μ-loop
+better-requires c κs = search needs
 
 is-named-requires : tie.Need-is-named-requires Inv-loop μ-loop
 is-named-requires c κs = search needs
 
+add-i : tie.Need-add-i Inv-loop μ-loop
+add-i c = search needs
+
 loop-less : tie.Need-loop-less Inv-loop μ-loop
-loop-less c = omega (arith, c .before .before .before .before .before .before .before .before .loop-test .taken)
+loop-less c = search needs
+
+-- a section that the head names is remembered
+named-next : (c : tie.Joined1 Inv-loop μ-loop) → c .if1 .named ≡ (c .before .before .before .before .before .loop .named || c .before .is-named .result)
+named-next c = ⊎-elim (λ w. rw (w .1, w .0 .taken, or-true)) (λ w. rw (w .1, w .0 .left, or-false)) (c .if1 .came)
 
 loop-again : tie.Need-loop-again Inv-loop μ-loop
 loop-again c =
-    let a = c .before .before .before .before .before .before .before .before .before .before .before .before .before .args in
-    let l = c .before .before .before .before .before .before .before .before .before .loop in
-    let e = c .before .before .before .before .before .before .before .section-at .ensures in
-    implied-next (a .n) (a .ev .now) (a .count) _ _ (l .verdict) (l .least) _ _ (l .named) _ _ _ _ _ _ (c .before .before .before .is-least .ensures) (c .before .is-named .ensures) (chosen-now (c .before .before))
-    (sym (ap (λ (x : Bool). x || l .named) (c .if2 .taken))) (l .i) (c .before .before .before .before .before .before .before .before .loop-test .taken) (l .inv) (c .before .before .before .before .before .before .field3 .ensures ∙ block-at (a .n) (a .ev .now) (l .i - 1) e) (c .before .before .before .before .before .field4 .ensures ∙ loss-at (a .n) (a .ev .now) (l .i - 1) e) (c .before .before .before .before .field5 .ensures ∙ mark-at (a .n) (a .ev .now) (l .i - 1) e)
+    let s = c .before .before .before in
+    implied-next _ _ _ _ (s .before .before .loop .inv) (s .before .loop-test .taken) (s .section-of .ensures) (c .before .before .better .ensures) (c .before .is-named .ensures) (named-next c)
 
-loop-less-2 : tie.Need-loop-less-2 Inv-loop μ-loop
-loop-less-2 c = omega (arith, c .before .before .before .before .before .before .before .before .loop-test .taken)
-
-loop-again-2 : tie.Need-loop-again-2 Inv-loop μ-loop
-loop-again-2 c =
-    let a = c .before .before .before .before .before .before .before .before .before .before .before .before .before .args in
-    let l = c .before .before .before .before .before .before .before .before .before .loop in
-    let e = c .before .before .before .before .before .before .before .section-at .ensures in
-    implied-next (a .n) (a .ev .now) (a .count) _ _ (l .verdict) (l .least) _ _ (l .named) _ _ _ _ _ _ (c .before .before .before .is-least .ensures) (c .before .is-named .ensures) (chosen-now (c .before .before))
-    (sym (ap (λ (x : Bool). x || l .named) (c .if2 .left))) (l .i) (c .before .before .before .before .before .before .before .before .loop-test .taken) (l .inv) (c .before .before .before .before .before .before .field3 .ensures ∙ block-at (a .n) (a .ev .now) (l .i - 1) e) (c .before .before .before .before .before .field4 .ensures ∙ loss-at (a .n) (a .ev .now) (l .i - 1) e) (c .before .before .before .before .field5 .ensures ∙ mark-at (a .n) (a .ev .now) (l .i - 1) e)
-
-field-requires-6 : tie.Need-field-requires-6 Inv-loop μ-loop
-field-requires-6 c κs = search needs
+-- the sections are gone over, and the verdict is as they imply
+abbrev ended : tie.Else2 Inv-loop μ-loop → tie.After-loop Inv-loop μ-loop
+ended c = c .before .before .before
 
 returns : tie.Need-returns Inv-loop μ-loop
-unfolding headIn headWidths fieldIn sum
-returns c = verdict-differs _ _ _ _ _ _ (implied (c .before .before)) (λ z. c .if3 .taken (c .before .field6 .ensures ∙ z))
+returns c =
+    let l = c .before .before .before in
+    verdict-differs _ _ _ (l .before .before .head-of .ensures) (l .before .loop .inv) (l .loop-test .left) (c .if2 .taken)
 
 returns-2 : tie.Need-returns-2 Inv-loop μ-loop
-unfolding headIn headWidths fieldIn sum
-returns-2 c = loss-differs _ _ _ _ _ _ (implied (c .before .before .before)) (sym (c .before .before .field6 .ensures) ∙ c .before .if3 .left) (λ z. c .if4 .taken (c .before .before .before .before .before .field2 .ensures ∙ z))
+returns-2 c =
+    let e = c .before .before .before in
+    let l = ended e in
+    loss-differs _ _ _ (l .before .before .head-of .ensures) (l .before .loop .inv) (l .loop-test .left) (e .if2 .left) (c .if3 .taken)
 
 returns-3 : tie.Need-returns-3 Inv-loop μ-loop
-unfolding headIn headWidths fieldIn sum
-returns-3 c = ap (λ (x : ℕ). eqb x 0) (c .before .before .before .before .before .before .before .field .ensures) ∙ none-right _ _ _ _ _ _ (implied (c .before .before .before .before)) (sym (c .before .before .before .field6 .ensures) ∙ c .before .before .if3 .left) (sym (c .before .before .before .before .before .before .field2 .ensures) ∙ c .before .if4 .left) (c .if5 .taken)
+returns-3 c =
+    let d = c .before .before .before in
+    let e = d .before .before .before in
+    let l = ended e in
+    none-right _ _ _ (l .before .before .head-of .ensures) (l .before .loop .inv) (l .loop-test .left) (e .if2 .left) (d .if3 .left) (c .before .if4 .taken)
 
 returns-4 : tie.Need-returns-4 Inv-loop μ-loop
-unfolding headIn headWidths fieldIn sum
-returns-4 c = chosen-right _ _ _ _ _ _ (implied (c .before .before .before .before)) (sym (c .before .before .before .field6 .ensures) ∙ c .before .before .if3 .left) (sym (c .before .before .before .before .before .before .field2 .ensures) ∙ c .before .if4 .left) (c .if5 .left)
+returns-4 c =
+    let d = c .before .before in
+    let e = d .before .before .before in
+    let l = ended e in
+    chosen-right _ _ _ (l .before .before .head-of .ensures) (l .before .loop .inv) (l .loop-test .left) (e .if2 .left) (d .if3 .left) (c .if4 .left)
 
 pub verdict-right-spec : {M : Type 1} → statement M
 verdict-right-spec =
@@ -115,23 +79,14 @@ verdict-right-spec =
     (tie.spec
     Inv-loop
     μ-loop
-    field-requires
-    field-requires-2
+    head-of-requires
     loop-holds
-    sub-i
-    section-at-requires
-    field-requires-3
-    add-field
-    field-requires-4
-    add-field-2
-    field-requires-5
-    is-least-requires
+    section-of-requires
+    better-requires
     is-named-requires
+    add-i
     loop-less
     loop-again
-    loop-less-2
-    loop-again-2
-    field-requires-6
     returns
     returns-2
     returns-3
