@@ -13,7 +13,10 @@ meet-requires-2 : tie.Need-meet-requires-2
 meet-requires-2 c κs = search needs
 
 returns : tie.Need-returns
-returns c = λ before m. record { same = λ f g a b. ap₂ (λ (x y : Bool). x && not y) (met-before _ before _ _ m (rw (c .before .if1 .taken) at (c .before .before .meet .ensures)) f a) (meet-one _ _ _ _ (c .meet2 .ensures) b) }
+returns c =
+    let met = rw (c .before .if1 .taken) at (c .before .before .meet .ensures) in
+    λ before m.
+    record { same = λ f g a b. ap₂ (λ (x y : Bool). x && not y) (met-before _ before _ _ m met f a) (meet-one _ _ _ _ (c .meet2 .ensures) b) }
 
 returns-2 : tie.Need-returns-2
 returns-2 c = λ before m. record { same = λ f g a b. met-after _ before _ _ m (rw (c .if1 .left) at (c .before .meet .ensures)) f g a b }
