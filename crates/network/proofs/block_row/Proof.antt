@@ -40,8 +40,9 @@ loop-again c = marking-next _ _ _ _ (c .before .before .before .loop .k) (omega 
 returns : tie.Need-returns Inv-loop μ-loop
 returns c =
     let l = c .before .loop in
-    let e : l .k ≡ c .before .before .args .size = omega (arith, l .inv .within) in
-    record { marks = λ v. l .inv .same v ∙ ap (λ (k : ℕ). leb (c .before .before .args .b * c .before .before .args .size + 1) v && leb v (c .before .before .args .b * c .before .before .args .size + k)) e }
+    let a = c .before .before .args in
+    let e : l .k ≡ a .size = omega (arith, l .inv .within) in
+    record { marks = λ v. l .inv .same v ∙ ap (λ (k : ℕ). leb (a .b * a .size + 1) v && leb v (a .b * a .size + k)) e }
 
 pub block-row-spec : {M : Type 1} → statement M
 block-row-spec =

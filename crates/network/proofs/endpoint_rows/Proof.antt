@@ -1,13 +1,12 @@
 -- `endpoint_rows` reads the endpoints' weights and marks the protected ones. Assumes nothing.
-use mathlib.Core.Path.{_≡_, sym, ap, _∙_}
+use mathlib.Core.Path.{_≡_, sym, _∙_}
 use native.Mathlib.Omega.{arith}
 use mathlib.Core.List.{List}
 use Prim.Native.Nat.{ℕ, _+_, _-_, _≤_}
 use mathlib.Core.Logic.{⊎-elim}
 use Rattle.rows.specs.Rows.{rowWords}
 use Rattle.picture.specs.declared.Header.{Header}
-use Rattle.picture.specs.Inner.{Read}
-use Rattle.picture.specs.Picture.{Picture, pictureOf, endpointOf}
+use Rattle.picture.specs.Picture.{pictureOf, endpointOf}
 use Rattle.picture.proofs.Facts.{read-picture, read-limited, read-endpoints-length}
 use Rattle.picture.specs.Layout.{endpointsMax}
 use Rattle.network.specs.Words.{weightOf}
@@ -21,7 +20,6 @@ use Rattle.network.proofs.endpoint_rows.Tie as tie
 record Loop (s : List ℕ) (h : Header) (weights guarded : List ℕ) (c : ℕ) : Type 0 where
   pub some : 1 ≤ c
   pub within : c ≤ h .endpoints + 1
-  pub read : Read s h
   pub weighed : Weighing (weightOf (pictureOf s)) weights c
   pub protected : Scanned (λ c. endpointOf (pictureOf s) c .protected) guarded c
 
@@ -31,42 +29,34 @@ Inv-loop s h weights₀ d protected₀ c₀ weights protected c = Loop s h weigh
 abbrev μ-loop : tie.MeasureT-loop
 μ-loop s h weights₀ d protected₀ c₀ weights protected c = h .endpoints + 1 - c
 
-few : (c : tie.At-loop Inv-loop μ-loop) → c .before .before .args .h .endpoints ≤ endpointsMax
-few c = read-limited _ _ (c .loop .inv .read) .counts .endpoints-most
+-- the entry, at the loop's test
+abbrev entry : tie.At-loop Inv-loop μ-loop → tie.Start Inv-loop μ-loop
+entry c = c .before .before
+
+few : (c : tie.At-loop Inv-loop μ-loop) → entry c .args .h .endpoints ≤ endpointsMax
+few c = read-limited _ _ (entry c .pre .0) .counts .endpoints-most
 
 -- what was read is the picture's
-weight : (c : tie.After-endpoint-weight Inv-loop μ-loop) → c .endpoint-weight .result ≡ weightOf (pictureOf (c .before .before .before .before .args .s .now)) (c .before .before .loop .c)
+weight : (c : tie.After-endpoint-weight Inv-loop μ-loop) → let l = c .before .before in
+    c .endpoint-weight .result ≡ weightOf (pictureOf (entry l .args .s .now)) (l .loop .c)
 unfolding weightOf
-weight c = c .endpoint-weight .ensures ∙ ap (λ (p : Picture). endpointOf p (c .before .before .loop .c) .weight) (read-picture _ _ (c .before .before .loop .inv .read))
+weight c = rw (read-picture _ _ (entry (c .before .before) .pre .0)) at (c .endpoint-weight .ensures)
 
-protected : (c : tie.After-endpoint-protected Inv-loop μ-loop) → endpointOf (pictureOf (c .before .before .before .before .before .args .s .now)) (c .before .before .before .loop .c) .protected ≡ c .endpoint-protected .result
-protected c =
-    sym (c .endpoint-protected .ensures ∙ ap (λ (p : Picture). endpointOf p (c .before .before .before .loop .c) .protected) (read-picture _ _ (c .before .before .before .loop .inv .read)))
-
--- the endpoint at hand is looked at, and marked if it is protected
-protected-next : (c : tie.Joined1 Inv-loop μ-loop) → Scanned (λ u. endpointOf (pictureOf (c .before .before .before .before .before .before .args .s .now)) u .protected) (c .if1 .protected) (c .before .before .before .before .loop .c + 1)
-protected-next c =
-    let l = c .before .before .before .before .loop in
-    ⊎-elim
-    (λ w. rw (w .3) (scanned-hit _ _ _ (l .c) (l .inv .some) (l .inv .protected) (protected (c .before) ∙ w .0 .taken) (w .2 .ensures)))
-    (λ w. rw (w .1) (scanned-miss _ _ (l .c) (l .inv .some) (l .inv .protected) (protected (c .before) ∙ w .0 .left)))
-    (c .if1 .came)
+protected : (c : tie.After-endpoint-protected Inv-loop μ-loop) → let l = c .before .before .before in
+    endpointOf (pictureOf (entry l .args .s .now)) (l .loop .c) .protected ≡ c .endpoint-protected .result
+protected c = sym (rw (read-picture _ _ (entry (c .before .before .before) .pre .0)) at (c .endpoint-protected .ensures))
 
 loop-holds : tie.Need-loop-holds Inv-loop μ-loop
 loop-holds c =
-    record {
-      some = omega arith;
-      within = omega arith;
-      read = c .before .pre .0;
-      weighed = rw (c .before .pre .1) (weighing-begun _);
-      protected = scanned-begun _ rowWords;
-    }
+    record { some = omega arith; within = omega arith; weighed = rw (c .before .pre .1) (weighing-begun _); protected = scanned-begun _ rowWords }
 
 endpoint-weight-requires : tie.Need-endpoint-weight-requires Inv-loop μ-loop
-endpoint-weight-requires c κs = (read-limited _ _ (c .before .loop .inv .read), c .before .loop .inv .some, omega arith)
+endpoint-weight-requires c κs = (read-limited _ _ (entry (c .before) .pre .0), c .before .loop .inv .some, omega arith)
 
 cast-weights : tie.Need-cast-weights Inv-loop μ-loop
-cast-weights c = omega (arith, weight c, weight-small (c .before .before .before .before .args .s .now) (c .before .before .loop .c))
+cast-weights c =
+    let l = c .before .before in
+    omega (arith, weight c, weight-small (entry l .args .s .now) (l .loop .c))
 
 mul-weights : tie.Need-mul-weights Inv-loop μ-loop
 mul-weights c = omega (arith, few (c .before .before))
@@ -75,7 +65,7 @@ element-write-weights : tie.Need-element-write-weights Inv-loop μ-loop
 element-write-weights c = omega (arith, few (c .before .before))
 
 endpoint-protected-requires : tie.Need-endpoint-protected-requires Inv-loop μ-loop
-endpoint-protected-requires c κs = (read-limited _ _ (c .before .before .loop .inv .read), c .before .before .loop .inv .some, omega arith)
+endpoint-protected-requires c κs = endpoint-weight-requires (c .before) κs
 
 add-requires : tie.Need-add-requires Inv-loop μ-loop
 add-requires c κs = omega (arith, few (c .before .before .before .before .before))
@@ -86,21 +76,27 @@ add-c c = omega (arith, few (c .before .before .before .before))
 loop-less : tie.Need-loop-less Inv-loop μ-loop
 loop-less c = search needs
 
+-- the endpoint at hand is looked at, and marked if it is protected
 loop-again : tie.Need-loop-again Inv-loop μ-loop
 loop-again c =
-    let l = c .before .before .before .before .loop in
+    let k = c .before .before .before .before in
+    let l = k .loop in
     record {
       some = omega arith;
       within = omega arith;
-      read = l .inv .read;
-      weighed = weighing-next _ (l .weights) (l .c) _ (l .inv .some) (omega (arith, few (c .before .before .before .before))) (l .inv .weighed) (weight (c .before .before));
-      protected = protected-next c;
+      weighed = weighing-next _ (l .weights) (l .c) _ (l .inv .some) (omega (arith, few k)) (l .inv .weighed) (weight (c .before .before));
+      protected =
+          ⊎-elim
+          (λ w. rw (w .3) (scanned-hit _ _ _ (l .c) (l .inv .some) (l .inv .protected) (protected (c .before) ∙ w .0 .taken) (w .2 .ensures)))
+          (λ w. rw (w .1) (scanned-miss _ _ (l .c) (l .inv .some) (l .inv .protected) (protected (c .before) ∙ w .0 .left)))
+          (c .if1 .came);
     }
 
 returns : tie.Need-returns Inv-loop μ-loop
 returns c =
     let l = c .before .loop in
-    endpoints-looked _ _ _ (l .c) (omega (arith, read-endpoints-length _ _ (l .inv .read))) (omega (arith, read-endpoints-length _ _ (l .inv .read))) (l .inv .weighed) (l .inv .protected)
+    let long = read-endpoints-length _ _ (entry (c .before) .pre .0) in
+    endpoints-looked _ _ _ (l .c) (omega (arith, long)) (omega (arith, long)) (l .inv .weighed) (l .inv .protected)
 
 pub endpoint-rows-spec : {M : Type 1} → statement M
 endpoint-rows-spec =

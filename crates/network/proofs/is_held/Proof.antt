@@ -19,9 +19,9 @@ slot-state-requires c κs = (read-limited _ _ (c .before .pre .0), c .before .pr
 
 returns : tie.Need-returns
 returns c =
-    let a = c .before .before .args in
-    let pre = c .before .before .pre in
-    ap (λ (x : ℕ). eqb x 0) (c .slot-state .ensures ∙ ap (λ (p : Picture). slotOf p (a .v) .state) (read-picture _ _ (pre .0))) ∙ held-state (pictureOf (a .s .now)) (a .v) (pre .1)
+    let k = c .before .before in
+    let state = rw (read-picture _ _ (k .pre .0)) at (c .slot-state .ensures) in
+    ap (λ (x : ℕ). eqb x 0) state ∙ held-state (pictureOf (k .args .s .now)) (k .args .v) (k .pre .1)
 
 pub is-held-spec : {M : Type 1} → statement M
 is-held-spec = tie.close (tie.spec slot-state-requires returns)

@@ -52,7 +52,8 @@ module _ (s : List ℕ) (h : Header) (r : Read s h) where
   link : (b : Bool) (i : ℕ) (l : Link) → b ≡ false → l ≡ getD (pictureWith edition1 h s .links) i noLink → l ≡ getD (marksOf b (pictureOf s)) i noLink
   link b i l f e = rw (f, sym (read-picture s h r)) e
 
-  service : (b : Bool) (i : ℕ) (l : Link) → b ≡ true → l ≡ getD (pictureWith edition1 h s .serviceLinks) i noLink → turned l ≡ getD (marksOf b (pictureOf s)) i noLink
+  service : (b : Bool) (i : ℕ) (l : Link) → b ≡ true → l ≡ getD (pictureWith edition1 h s .serviceLinks) i noLink
+      → turned l ≡ getD (marksOf b (pictureOf s)) i noLink
   service b i l t e = rw (t, sym (read-picture s h r)) (ap turned e ∙ sym (List·getD-map turned (pictureWith edition1 h s .serviceLinks) i noLink))
 
 abbrev Inv-loop : tie.InvT-loop
@@ -61,6 +62,10 @@ Inv-loop s h count services table₀ i₀ table i = Linking (rowsFor services) (
 abbrev μ-loop : tie.MeasureT-loop
 μ-loop s h count services table₀ i₀ table i = count - i
 
+-- the entry, at the loop's test
+abbrev entry : tie.At-loop Inv-loop μ-loop → tie.Start Inv-loop μ-loop
+entry c = c .before .before
+
 loop-holds : tie.Need-loop-holds Inv-loop μ-loop
 loop-holds c =
     let a = c .before .args in
@@ -68,38 +73,38 @@ loop-holds c =
 
 nth-service-link-requires : tie.Need-nth-service-link-requires Inv-loop μ-loop
 nth-service-link-requires c κs =
-    let a = c .before .before .before .before .args in
-    let p = c .before .before .before .before .pre in
-    (read-limited _ _ (p .0), omega (arith, p .1, ap (λ (b : Bool). countOf b (a .h)) (c .if1 .taken)))
+    let e = entry (c .before .before) in
+    (read-limited _ _ (e .pre .0), omega (arith, e .pre .1, ap (λ (b : Bool). countOf b (e .args .h)) (c .if1 .taken)))
 
 mark-requires : tie.Need-mark-requires Inv-loop μ-loop
 mark-requires c κs =
-    let a = c .before .before .before .before .before .before .args in
-    let p = c .before .before .before .before .before .before .pre in
-    let l = c .before .before .before .before .loop in
-    let k = read-services _ _ (p .0) in
-    let z = read-sizes _ _ (p .0) in
-    let n = read-limited _ _ (p .0) in
-    let many = l .inv .many ∙ ap rowsFor (c .before .before .if1 .taken) in
-    let small : l .i < length (pictureOf (a .s .now) .serviceLinks) = omega (arith, read-services-length _ _ (p .0), nth-service-link-requires (c .before .before) κs .1) in
-    rw (c .before .nth-service-link .ensures, read-picture _ _ (p .0)) (omega (arith, many, n .counts .endpoints-most, k .endpoint-most (l .i) small), omega (arith, k .location (l .i) small))
+    let t = c .before .before in
+    let l = t .before .before .loop in
+    let e = entry (t .before .before) in
+    let r = e .pre .0 in
+    let k = read-services _ _ r in
+    let z = read-sizes _ _ r in
+    let n = read-limited _ _ r .counts .endpoints-most in
+    let many = l .inv .many ∙ ap rowsFor (t .if1 .taken) in
+    let small : l .i < length (pictureOf (e .args .s .now) .serviceLinks) = omega (arith, read-services-length _ _ r, nth-service-link-requires t κs .1) in
+    rw (c .before .nth-service-link .ensures, read-picture _ _ r) (omega (arith, k .endpoint-most (l .i) small), omega (arith, k .location (l .i) small))
 
 nth-link-requires : tie.Need-nth-link-requires Inv-loop μ-loop
 nth-link-requires c κs =
-    let a = c .before .before .before .before .args in
-    let p = c .before .before .before .before .pre in
-    (read-limited _ _ (p .0), omega (arith, p .1, ap (λ (b : Bool). countOf b (a .h)) (c .if1 .left)))
+    let e = entry (c .before .before) in
+    (read-limited _ _ (e .pre .0), omega (arith, e .pre .1, ap (λ (b : Bool). countOf b (e .args .h)) (c .if1 .left)))
 
 mark-requires-2 : tie.Need-mark-requires-2 Inv-loop μ-loop
 mark-requires-2 c κs =
-    let a = c .before .before .before .before .before .before .args in
-    let p = c .before .before .before .before .before .before .pre in
-    let l = c .before .before .before .before .loop in
-    let k = read-links _ _ (p .0) in
-    let z = read-sizes _ _ (p .0) in
-    let many = l .inv .many ∙ ap rowsFor (c .before .before .if1 .left) in
-    let small : l .i < length (pictureOf (a .s .now) .links) = omega (arith, read-links-length _ _ (p .0), nth-link-requires (c .before .before) κs .1) in
-    rw (c .before .nth-link .ensures, read-picture _ _ (p .0)) (omega (arith, many, k .from (l .i) small), omega (arith, k .to (l .i) small))
+    let t = c .before .before in
+    let l = t .before .before .loop in
+    let e = entry (t .before .before) in
+    let r = e .pre .0 in
+    let k = read-links _ _ r in
+    let z = read-sizes _ _ r in
+    let many = l .inv .many ∙ ap rowsFor (t .if1 .left) in
+    let small : l .i < length (pictureOf (e .args .s .now) .links) = omega (arith, read-links-length _ _ r, nth-link-requires t κs .1) in
+    rw (c .before .nth-link .ensures, read-picture _ _ r) (omega (arith, k .from (l .i) small), omega (arith, k .to (l .i) small))
 
 add-i : tie.Need-add-i Inv-loop μ-loop
 add-i c = search needs
@@ -109,25 +114,26 @@ loop-less c = search needs
 
 loop-again : tie.Need-loop-again Inv-loop μ-loop
 loop-again c =
-    let a = c .before .before .before .before .args in
-    let p = c .before .before .before .before .pre in
     let l = c .before .before .loop in
+    let a = entry (c .before .before) .args in
+    let p = entry (c .before .before) .pre in
     let marks = marksOf (a .services) (pictureOf (a .s .now)) in
     let small : l .i < length marks = omega (arith, long _ _ (p .0) (a .services), p .1) in
     ⊎-elim
-    (λ w. rw (w .5) (linking-next _ marks (l .table) _ (l .i) (turned (w .1 .result)) (l .inv) small (service _ _ (p .0) _ _ _ (w .0 .taken) (w .1 .ensures)) (w .3 .ensures)))
-    (λ w. rw (w .5) (linking-next _ marks (l .table) _ (l .i) (w .1 .result) (l .inv) small (link _ _ (p .0) _ _ _ (w .0 .left) (w .1 .ensures)) (w .3 .ensures)))
+    (λ w. rw (w .5) (linking-next _ marks (l .table) _ (l .i) _ (l .inv) small (service _ _ (p .0) _ _ _ (w .0 .taken) (w .1 .ensures)) (w .3 .ensures)))
+    (λ w. rw (w .5) (linking-next _ marks (l .table) _ (l .i) _ (l .inv) small (link _ _ (p .0) _ _ _ (w .0 .left) (w .1 .ensures)) (w .3 .ensures)))
     (c .if1 .came)
 
 same-length : tie.Need-same-length Inv-loop μ-loop
-same-length c = c .before .loop .inv .many ∙ sym (c .before .before .before .pre .2 .many)
+same-length c = c .before .loop .inv .many ∙ sym (entry (c .before) .pre .2 .many)
 
 returns : tie.Need-returns Inv-loop μ-loop
 returns c =
-    let a = c .before .before .before .args in
-    let p = c .before .before .before .pre in
     let l = c .before .loop in
-    all-marked (a .services) (pictureOf (a .s .now)) (l .table) (linking-ended _ _ (l .table) (l .i) (l .inv) (omega (arith, long _ _ (p .0) (a .services), p .1)))
+    let a = entry (c .before) .args in
+    let p = entry (c .before) .pre in
+    let all = linking-ended _ _ (l .table) (l .i) (l .inv) (omega (arith, long _ _ (p .0) (a .services), p .1)) in
+    all-marked (a .services) (pictureOf (a .s .now)) (l .table) all
 
 pub mark-rows-spec : {M : Type 1} → statement M
 mark-rows-spec =

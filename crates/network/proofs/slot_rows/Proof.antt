@@ -6,7 +6,6 @@ use Prim.Native.Nat.{ℕ, _+_, _-_, _≤_}
 use mathlib.Core.Logic.{⊎-elim}
 use Rattle.rows.specs.Rows.{slotsMax, rowWords}
 use Rattle.picture.specs.declared.Header.{Header}
-use Rattle.picture.specs.Inner.{Read}
 use Rattle.picture.specs.Picture.{pictureOf}
 use Rattle.picture.proofs.Facts.{read-limited, read-slots-length}
 use Rattle.network.specs.Words.{isHeld}
@@ -19,7 +18,6 @@ use Rattle.network.proofs.slot_rows.Tie as tie
 record Loop (s : List ℕ) (h : Header) (holding nearby : List ℕ) (v : ℕ) : Type 0 where
   pub some : 1 ≤ v
   pub within : v ≤ h .slots + 1
-  pub read : Read s h
   pub held : Scanned (isHeld (pictureOf s)) holding v
   pub near : Scanned (isNearHeld (pictureOf s)) nearby v
 
@@ -29,39 +27,24 @@ Inv-loop s h n held₀ near₀ v₀ held near v = Loop s h held near v
 abbrev μ-loop : tie.MeasureT-loop
 μ-loop s h n held₀ near₀ v₀ held near v = h .slots + 1 - v
 
-small : (c : tie.At-loop Inv-loop μ-loop) → c .before .before .args .h .slots ≤ slotsMax
-small c = read-limited _ _ (c .loop .inv .read) .slots
+-- the entry, at the loop's test
+abbrev entry : tie.At-loop Inv-loop μ-loop → tie.Start Inv-loop μ-loop
+entry c = c .before .before
 
--- the slot at hand is looked at, and marked if it is held
-held-next : (c : tie.Joined1 Inv-loop μ-loop) → Scanned (isHeld (pictureOf (c .before .before .before .before .before .args .s .now))) (c .if1 .held) (c .before .before .before .loop .v + 1)
-held-next c =
-    let l = c .before .before .before .loop in
-    ⊎-elim
-    (λ w. rw (w .3) (scanned-hit _ _ _ (l .v) (l .inv .some) (l .inv .held) (sym (c .before .is-held .ensures) ∙ w .0 .taken) (w .2 .ensures)))
-    (λ w. rw (w .1) (scanned-miss _ _ (l .v) (l .inv .some) (l .inv .held) (sym (c .before .is-held .ensures) ∙ w .0 .left)))
-    (c .if1 .came)
-
-near-next : (c : tie.Joined2 Inv-loop μ-loop) → Scanned (isNearHeld (pictureOf (c .before .before .before .before .before .before .before .args .s .now))) (c .if2 .near) (c .before .before .before .before .before .loop .v + 1)
-near-next c =
-    let l = c .before .before .before .before .before .loop in
-    ⊎-elim
-    (λ w. rw (w .3) (scanned-hit _ _ _ (l .v) (l .inv .some) (l .inv .near) (sym (c .before .is-near-held .ensures) ∙ w .0 .taken) (w .2 .ensures)))
-    (λ w. rw (w .1) (scanned-miss _ _ (l .v) (l .inv .some) (l .inv .near) (sym (c .before .is-near-held .ensures) ∙ w .0 .left)))
-    (c .if2 .came)
+small : (c : tie.At-loop Inv-loop μ-loop) → entry c .args .h .slots ≤ slotsMax
+small c = read-limited _ _ (entry c .pre) .slots
 
 loop-holds : tie.Need-loop-holds Inv-loop μ-loop
-loop-holds c = record { some = omega arith; within = omega arith; read = c .before .pre; held = scanned-begun _ rowWords; near = scanned-begun _ rowWords }
+loop-holds c = record { some = omega arith; within = omega arith; held = scanned-begun _ rowWords; near = scanned-begun _ rowWords }
 
 is-held-requires : tie.Need-is-held-requires Inv-loop μ-loop
-is-held-requires c κs = (c .before .loop .inv .read, c .before .loop .inv .some, omega arith)
+is-held-requires c κs = (entry (c .before) .pre, c .before .loop .inv .some, omega arith)
 
 add-requires : tie.Need-add-requires Inv-loop μ-loop
 add-requires c κs = omega (arith, small (c .before .before .before .before))
 
 is-near-held-requires : tie.Need-is-near-held-requires Inv-loop μ-loop
-is-near-held-requires c κs =
-    let l = c .before .before .before .loop in
-    (l .inv .read, l .inv .some, omega arith)
+is-near-held-requires c κs = is-held-requires (c .before .before) κs
 
 add-requires-2 : tie.Need-add-requires-2 Inv-loop μ-loop
 add-requires-2 c κs = omega (arith, small (c .before .before .before .before .before .before))
@@ -72,15 +55,32 @@ add-v c = omega (arith, small (c .before .before .before .before .before))
 loop-less : tie.Need-loop-less Inv-loop μ-loop
 loop-less c = omega (arith, small (c .before .before .before .before .before))
 
+-- the slot at hand is looked at, and marked if it is held
 loop-again : tie.Need-loop-again Inv-loop μ-loop
 loop-again c =
-    let l = c .before .before .before .before .before .loop in
-    record { some = omega arith; within = omega arith; read = l .inv .read; held = held-next (c .before .before); near = near-next c }
+    let k = c .before .before in
+    let l = k .before .before .before .loop in
+    let e = sym (k .before .is-held .ensures) in
+    let f = sym (c .before .is-near-held .ensures) in
+    record {
+      some = omega arith;
+      within = omega arith;
+      held =
+          ⊎-elim
+          (λ w. rw (w .3) (scanned-hit _ _ _ (l .v) (l .inv .some) (l .inv .held) (e ∙ w .0 .taken) (w .2 .ensures)))
+          (λ w. rw (w .1) (scanned-miss _ _ (l .v) (l .inv .some) (l .inv .held) (e ∙ w .0 .left)))
+          (k .if1 .came);
+      near =
+          ⊎-elim
+          (λ w. rw (w .3) (scanned-hit _ _ _ (l .v) (l .inv .some) (l .inv .near) (f ∙ w .0 .taken) (w .2 .ensures)))
+          (λ w. rw (w .1) (scanned-miss _ _ (l .v) (l .inv .some) (l .inv .near) (f ∙ w .0 .left)))
+          (c .if2 .came);
+    }
 
 returns : tie.Need-returns Inv-loop μ-loop
 returns c =
     let l = c .before .loop in
-    slots-looked _ _ _ (l .v) (omega (arith, read-slots-length _ _ (l .inv .read))) (omega (arith, small (c .before))) (l .inv .held) (l .inv .near)
+    slots-looked _ _ _ (l .v) (omega (arith, read-slots-length _ _ (entry (c .before) .pre))) (omega (arith, small (c .before))) (l .inv .held) (l .inv .near)
 
 pub slot-rows-spec : {M : Type 1} → statement M
 slot-rows-spec =
