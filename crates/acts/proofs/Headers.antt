@@ -1,9 +1,10 @@
 -- The slots of a block of an accepted picture, by its header. Assumes nothing.
 use mathlib.Core.Path.{_≡_, refl, sym, ap, ap₂, _∙_, subst}
-use mathlib.Core.Bool.{Bool, true, false, not, _&&_, and-comm}
+use mathlib.Core.Bool.{Bool, false, not, _&&_, and-comm}
 use mathlib.Core.List.{List}
 use Prim.Native.Nat.{ℕ, zero, suc, _+_, _*_, _≤_, _<_}
-use native.Mathlib.Nat.{not-suc-le-zero}
+use native.Mathlib.Omega.{arith}
+use native.Mathlib.Nat.{add-comm, not-suc-le-zero}
 use Rattle.rows.specs.Rows.{slotsMax}
 use borrow.Author.Tests.{le-leb, lt-leb}
 use lib.Dec.{eqb, leb}
@@ -15,9 +16,9 @@ use Rattle.picture.specs.Picture.{Picture, pictureOf, pictureWith, slotOf}
 use Rattle.picture.specs.Inner.{Read}
 use Rattle.picture.proofs.Accepted.{accepted-kept}
 use Rattle.picture.proofs.Facts.{read-picture, read-sizes}
-use Rattle.network.specs.Words.{blockCount, inBlock, isHeld}
+use Rattle.network.specs.Words.{slotCount, blockCount, inBlock, isHeld}
 use Rattle.network.specs.Tests.{isNearHeld}
-use Rattle.network.proofs.Blocks.{block-fits, read-block-size, read-blocks}
+use Rattle.network.proofs.Blocks.{block-fits, read-block-size, read-slots, read-blocks}
 use Rattle.acts.specs.declared.Act.{Act}
 use Rattle.acts.specs.Acts.{after, blockSlots, changes, recoverableNear}
 
@@ -33,6 +34,10 @@ changed a p v = not (eqb (after a (slotOf p v .state)) (slotOf p v .state))
 module _ (bs : List ℕ) (h : Header) (r : Read bs h) where
   pub read-within : (b : ℕ) → b < blockCount (pictureOf bs) → Within h b
   read-within b l = record { last = block-fits (h .slots) (h .«block_size») b (rw (read-blocks bs h r) l); most = read-sizes bs h r .slots-most }
+
+  -- a scan by the header passes all slots of the picture
+  pub slots-all : (k : ℕ) → k ≤ h .slots → h .slots ≤ k → slotCount (pictureOf bs) ≡ k
+  slots-all k l m = omega (arith, read-slots bs h r)
 
   -- a state that is read with the header is the picture's
   pub read-state : (v : ℕ) {x : ℕ} → x ≡ slotOf (pictureWith edition1 h bs) v .state → x ≡ slotOf (pictureOf bs) v .state
@@ -61,6 +66,10 @@ module _ (bs : List ℕ) (h : Header) (r : Read bs h) where
   pub read-in-block : (b v : ℕ) → inBlock (pictureOf bs) b v ≡ (leb (b * h .«block_size» + 1) v && leb v (b * h .«block_size» + h .«block_size»))
   unfolding inBlock
   read-in-block b v = ap (λ (k : ℕ). leb (b * k + 1) v && leb v (b * k + k)) (read-block-size bs h r)
+
+-- what was found of the slot after the first k
+pub slot-next : (f : ℕ → Bool) (k : ℕ) {x : Bool} → x ≡ f (k + 1) → f (1 + k) ≡ x
+slot-next f k e = ap f (add-comm 1 k) ∙ sym e
 
 -- a slot that is near and in state 0 is held and near
 pub near-held : (p : Picture) (v : ℕ) → 1 ≤ v → (slotOf p v .near && eqb (slotOf p v .state) 0) ≡ isNearHeld p v

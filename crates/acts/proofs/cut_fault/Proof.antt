@@ -1,8 +1,5 @@
 -- `cut_fault` tells whether an act cuts a protected endpoint. Assumes nothing.
-use mathlib.Core.Path.{sym, ap, _∙_}
 use borrow.Author.Needs.{needs}
-use Rattle.picture.specs.Picture.{pictureOf}
-use Rattle.acts.specs.declared.Act.{Act}
 use Rattle.acts.specs.Acts.{cutFault}
 use Rattle.acts.proofs.cut_fault.Statement.{statement}
 use Rattle.acts.proofs.cut_fault.Tie as tie
@@ -24,21 +21,15 @@ block-cut-fault-requires-2 c κs = search needs
 
 returns : tie.Need-returns
 unfolding cutFault
-returns c =
-    let a = c .before .before .before .before .args in
-    c .block-cut-fault .ensures ∙ sym (ap (λ (x : Act). cutFault x (pictureOf (a .s .now)) (a .b)) (c .before .enum-told .given .1))
+returns c = rw (c .before .enum-told .given .1) (c .block-cut-fault .ensures)
 
 returns-2 : tie.Need-returns-2
 unfolding cutFault
-returns-2 c =
-    let a = c .before .before .before .args in
-    sym (ap (λ (x : Act). cutFault x (pictureOf (a .s .now)) (a .b)) (c .enum-told2 .given .1))
+returns-2 c = rw (c .enum-told2 .given .1)
 
 returns-3 : tie.Need-returns-3
 unfolding cutFault
-returns-3 c =
-    let a = c .before .before .before .before .args in
-    c .block-cut-fault2 .ensures ∙ sym (ap (λ (x : Act). cutFault x (pictureOf (a .s .now)) (a .b)) (c .before .enum-told3 .given .1))
+returns-3 c = rw (c .before .enum-told3 .given .1) (c .block-cut-fault2 .ensures)
 
 pub cut-fault-spec : {M : Type 1} → statement M
 cut-fault-spec =

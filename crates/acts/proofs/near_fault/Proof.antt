@@ -1,8 +1,5 @@
 -- `near_fault` tells whether too many near slots are held after an act. Assumes nothing.
-use mathlib.Core.Path.{sym, ap, _∙_}
 use borrow.Author.Needs.{needs}
-use Rattle.picture.specs.Picture.{pictureOf}
-use Rattle.acts.specs.declared.Act.{Act}
 use Rattle.acts.specs.Acts.{nearFault}
 use Rattle.acts.proofs.near_fault.Statement.{statement}
 use Rattle.acts.proofs.near_fault.Tie as tie
@@ -21,21 +18,15 @@ enum-told-3 c = search needs
 
 returns : tie.Need-returns
 unfolding nearFault
-returns c =
-    let a = c .before .before .before .args in
-    sym (ap (λ (x : Act). nearFault x (pictureOf (a .s .now)) (a .b)) (c .enum-told .given .1))
+returns c = rw (c .enum-told .given .1)
 
 returns-2 : tie.Need-returns-2
 unfolding nearFault
-returns-2 c =
-    let a = c .before .before .before .before .args in
-    c .block-near-fault .ensures ∙ sym (ap (λ (x : Act). nearFault x (pictureOf (a .s .now)) (a .b)) (c .before .enum-told2 .given .1))
+returns-2 c = rw (c .before .enum-told2 .given .1) (c .block-near-fault .ensures)
 
 returns-3 : tie.Need-returns-3
 unfolding nearFault
-returns-3 c =
-    let a = c .before .before .before .args in
-    sym (ap (λ (x : Act). nearFault x (pictureOf (a .s .now)) (a .b)) (c .enum-told3 .given .1))
+returns-3 c = rw (c .enum-told3 .given .1)
 
 pub near-fault-spec : {M : Type 1} → statement M
 near-fault-spec =

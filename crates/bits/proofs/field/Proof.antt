@@ -6,10 +6,6 @@ use Rattle.bits.proofs.Reading.{fieldAt-window}
 use borrow.Author.Needs.{needs}
 use Rattle.bits.proofs.field.Statement.{statement}
 use Rattle.bits.proofs.field.Tie as tie
-use Rattle.bits.proofs.field.Reads as reads
-use Rattle.bits.proofs.field.Lts as lts
-use Rattle.bits.proofs.four_bytes.Reads as four-bytes-reads
-use Rattle.bits.proofs.last_bytes.Reads as last-bytes-reads
 
 sub-below : tie.Need-sub-below
 sub-below c = search needs

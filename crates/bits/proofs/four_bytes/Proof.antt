@@ -1,6 +1,6 @@
 -- `four_bytes` gives the 32 bits from a byte on. Assumes nothing.
 use mathlib.Core.Path.{_≡_, sym, _∙_}
-use Prim.Native.Nat.{_+_, _*_}
+use Prim.Native.Nat.{ℕ, _*_}
 use native.Mathlib.Omega.{arith}
 use borrow.Author.Needs.{needs}
 use lib.ListN.{getD}
@@ -8,26 +8,26 @@ use Rattle.bits.specs.Bits.{fieldAt}
 use Rattle.bits.proofs.Reading.{fieldAt-byte, fieldAt-more, fieldAt-below}
 use Rattle.bits.proofs.four_bytes.Statement.{statement}
 use Rattle.bits.proofs.four_bytes.Tie as tie
-use Rattle.bits.proofs.four_bytes.Reads as reads
-use Rattle.bits.proofs.four_bytes.Lts as lts
-use Rattle.bits.proofs.then_byte.Reads as then-byte-reads
 
-one : (c : tie.After-then-byte) → c .then-byte .result ≡ fieldAt (c .before .before .before .args .s .now) (c .before .before .before .args .k * 8) 8
+-- the entry, and the first w bits from the byte on
+abbrev start : tie.After-then-byte → tie.Start
+start c = c .before .before .before
+
+abbrev bits : tie.After-then-byte → ℕ → ℕ
+bits c w = fieldAt (start c .args .s .now) (start c .args .k * 8) w
+
+one : (c : tie.After-then-byte) → c .then-byte .result ≡ bits c 8
 one c =
-    let a = c .before .before .before .args in
+    let a = start c .args in
     let h = c .before .shared-slice-known2 .given (a .k) in
     let e : c .then-byte .result ≡ getD (a .s .now) (a .k) 0 = omega arith in
     e ∙ sym (fieldAt-byte (a .s .now) (a .k) (h .fits))
 
-two : (c : tie.After-then-byte2) → c .then-byte2 .result ≡ fieldAt (c .before .before .before .before .before .args .s .now) (c .before .before .before .before .before .args .k * 8) 16
-two c =
-    let a = c .before .before .before .before .before .args in
-    fieldAt-more (a .s .now) (a .k) 1 (one (c .before .before)) (c .before .shared-slice-known3 .given (a .k + 1) .fits) (c .then-byte2 .ensures)
+two : (c : tie.After-then-byte2) → c .then-byte2 .result ≡ bits (c .before .before) 16
+two c = fieldAt-more _ _ 1 (one (c .before .before)) (c .before .shared-slice-known3 .given _ .fits) (c .then-byte2 .ensures)
 
-three : (c : tie.After-then-byte3) → c .then-byte3 .result ≡ fieldAt (c .before .before .before .before .before .before .before .args .s .now) (c .before .before .before .before .before .before .before .args .k * 8) 24
-three c =
-    let a = c .before .before .before .before .before .before .before .args in
-    fieldAt-more (a .s .now) (a .k) 2 (two (c .before .before)) (c .before .shared-slice-known4 .given (a .k + 2) .fits) (c .then-byte3 .ensures)
+three : (c : tie.After-then-byte3) → c .then-byte3 .result ≡ bits (c .before .before .before .before) 24
+three c = fieldAt-more _ _ 2 (two (c .before .before)) (c .before .shared-slice-known4 .given _ .fits) (c .then-byte3 .ensures)
 
 shared-slice-read-then-byte : tie.Need-shared-slice-read-then-byte
 shared-slice-read-then-byte c = search needs
@@ -63,9 +63,7 @@ then-byte-requires-4 : tie.Need-then-byte-requires-4
 then-byte-requires-4 c κs = fieldAt-below _ _ _ 24 (three (c .before)) (omega arith)
 
 returns : tie.Need-returns
-returns c =
-    let a = c .before .before .before .before .before .before .before .before .before .args in
-    fieldAt-more (a .s .now) (a .k) 3 (three (c .before .before)) (c .before .shared-slice-known5 .given (a .k + 3) .fits) (c .then-byte4 .ensures)
+returns c = fieldAt-more _ _ 3 (three (c .before .before)) (c .before .shared-slice-known5 .given _ .fits) (c .then-byte4 .ensures)
 
 pub four-bytes-spec : {M : Type 1} → statement M
 four-bytes-spec =

@@ -9,9 +9,6 @@ use Rattle.bits.specs.Bits.{fieldAt}
 use Rattle.bits.proofs.Reading.{fieldAt-zero, fieldAt-more, fieldAt-below}
 use Rattle.bits.proofs.last_bytes.Statement.{statement}
 use Rattle.bits.proofs.last_bytes.Tie as tie
-use Rattle.bits.proofs.last_bytes.Reads as reads
-use Rattle.bits.proofs.last_bytes.Lts as lts
-use Rattle.bits.proofs.then_byte.Reads as then-byte-reads
 
 abbrev Inv-loop : tie.InvT-loop
 Inv-loop s k v₀ i₀ v i = (i ≤ 4) × (v ≡ fieldAt s (k * 8) (i * 8))
@@ -41,7 +38,8 @@ loop-less : tie.Need-loop-less Inv-loop μ-loop
 loop-less c = search needs
 
 -- the byte that is appended is the one that stands there, or 0 past the end
-byte : (c : tie.Joined1 Inv-loop μ-loop) → c .if1 .b ≡ getD (c .before .before .before .before .args .s .now) (c .before .before .before .before .args .k + c .before .before .loop .i) 0
+byte : (c : tie.Joined1 Inv-loop μ-loop) → let l = c .before .before in let a = l .before .before .args in
+    c .if1 .b ≡ getD (a .s .now) (a .k + l .loop .i) 0
 byte c = ⊎-elim (λ w. w .2) (λ w. w .1 ∙ sym (List·getD-eq-default (c .before .before .before .before .args .s .now) 0 (w .0 .left))) (c .if1 .came)
 
 loop-again : tie.Need-loop-again Inv-loop μ-loop

@@ -11,9 +11,6 @@ use Rattle.bits.specs.Bits.{putField}
 use Rattle.bits.proofs.Writing.{length-putField, putField-zero, putField-chunk}
 use Rattle.bits.proofs.put_field.Statement.{statement}
 use Rattle.bits.proofs.put_field.Tie as tie
-use Rattle.bits.proofs.put_field.Reads as reads
-use Rattle.bits.proofs.put_field.Lts as lts
-use Rattle.bits.proofs.put_in_byte.Reads as put-in-byte-reads
 
 abbrev Inv-loop : tie.InvT-loop
 Inv-loop s₀ p w v done₀ s done = (done ≤ w) × (s ≡ putField s₀ p done (v / 2 ^ (w - done)))
@@ -27,13 +24,17 @@ record Chunk (at left next : ℕ) : Type 0 where
   pub within : next ≤ left
   pub inside : at % 8 + next ≤ 8
 
-chunk : (c : tie.Joined1 Inv-loop μ-loop)
-    → Chunk (c .before .before .before .before .args .p + c .before .before .loop .done) (c .before .before .before .before .args .w - c .before .before .loop .done) (c .if1 .next)
+-- the entry, at the loop's test
+abbrev entry : tie.At-loop Inv-loop μ-loop → tie.Start Inv-loop μ-loop
+entry c = c .before .before
+
+chunk : (c : tie.Joined1 Inv-loop μ-loop) → let l = c .before .before in let a = entry l .args in
+    Chunk (a .p + l .loop .done) (a .w - l .loop .done) (c .if1 .next)
 chunk c = ⊎-elim (λ w. omega arith) (λ w. omega arith) (c .if1 .came)
 
 -- the slice keeps its length
-kept : (c : tie.At-loop Inv-loop μ-loop) → length (c .loop .s) ≡ length (c .before .before .args .s .now)
-kept c = ap length (c .loop .inv .1) ∙ length-putField (c .before .before .args .s .now) (c .before .before .args .p) (c .loop .done) _
+kept : (c : tie.At-loop Inv-loop μ-loop) → length (c .loop .s) ≡ length (entry c .args .s .now)
+kept c = ap length (c .loop .inv .1) ∙ length-putField (entry c .args .s .now) (entry c .args .p) (c .loop .done) _
 
 loop-holds : tie.Need-loop-holds Inv-loop μ-loop
 loop-holds c = (zero-le, sym (putField-zero (c .before .args .s .now) (c .before .args .p) _))
@@ -66,10 +67,11 @@ loop-less c = omega (arith, chunk (c .before .before .before .before .before))
 
 loop-again : tie.Need-loop-again Inv-loop μ-loop
 loop-again c =
-    let a = c .before .before .before .before .before .before .before .before .before .args in
-    let l = c .before .before .before .before .before .before .before .loop in
-    let k = chunk (c .before .before .before .before .before) in
-    let n = c .before .before .before .before .before .if1 .next in (
+    let j = c .before .before .before .before .before in
+    let a = entry (j .before .before) .args in
+    let l = j .before .before .loop in
+    let k = chunk j in
+    let n = j .if1 .next in (
       omega (arith, k),
       c .before .before .put-in-byte .ensures
           ∙ ap (λ (z : List ℕ). putField z (a .p + l .done) n (a .v / 2 ^ (a .w - l .done - n))) (l .inv .1)
@@ -81,7 +83,7 @@ same-length c = kept (c .before)
 
 returns : tie.Need-returns Inv-loop μ-loop
 returns c =
-    let a = c .before .before .before .args in
+    let a = entry (c .before) .args in
     let l = c .before .loop in
     let all : l .done ≡ a .w = omega arith in
     let none : a .w - a .w ≡ 0 = omega arith in

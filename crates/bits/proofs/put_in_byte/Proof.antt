@@ -10,8 +10,6 @@ use Rattle.bits.proofs.Writing.{patched, digits-le, shifted-digits, pat
 use borrow.Author.Needs.{needs}
 use Rattle.bits.proofs.put_in_byte.Statement.{statement}
 use Rattle.bits.proofs.put_in_byte.Tie as tie
-use Rattle.bits.proofs.put_in_byte.Reads as reads
-use Rattle.bits.proofs.put_in_byte.Lts as lts
 
 -- the mask as the code makes it
 abbrev mask : ℕ → ℕ
@@ -32,9 +30,6 @@ module _ (c : tie.After-slice-known) where
 
   abbrev k : ℕ
   k = 8 - c .before .args .p % 8 - c .before .args .w
-
-  made : b - bitAnd (b / 2 ^ k) (mask (c .before .args .w)) * 2 ^ k % 2 ^ 64 + bitAnd (c .before .args .v) (mask (c .before .args .w)) * 2 ^ k % 2 ^ 64 ≡ patched b k (c .before .args .w) (c .before .args .v)
-  made = coded b k (c .before .args .w) (c .before .args .v) (omega arith)
 
   byte : patched b k (c .before .args .w) (c .before .args .v) < 256
   byte = patched-byte b k (c .before .args .w) (c .before .args .v) (c .slice-known .given (c .before .args .p / 8) .fits) (omega arith)
@@ -70,7 +65,7 @@ shl-new-2 : tie.Need-shl-new-2
 shl-new-2 c = search needs
 
 add-new : tie.Need-add-new
-add-new c = omega (arith, made c, byte c)
+add-new c = omega (arith, coded (b c) (k c) (c .before .args .w) (c .before .args .v) (omega arith), byte c)
 
 cast-s : tie.Need-cast-s
 cast-s c = search needs
@@ -84,7 +79,9 @@ same-length c = search needs
 returns : tie.Need-returns
 returns c =
     let a = c .before .args in
-    ap (set (a .s .now) (a .p / 8)) (ap (λ (z : ℕ). z % 256) (made c) ∙ mod-eq-of-lt (byte c)) ∙ sym (putField-byte (a .s .now) (a .p) (a .w) (a .v) (c .before .pre .0) (c .before .pre .1))
+    let made = coded (b c) (k c) (a .w) (a .v) (omega arith) in
+    ap (set (a .s .now) (a .p / 8)) (ap (λ (z : ℕ). z % 256) made ∙ mod-eq-of-lt (byte c))
+    ∙ sym (putField-byte (a .s .now) (a .p) (a .w) (a .v) (c .before .pre .0) (c .before .pre .1))
 
 pub put-in-byte-spec : {M : Type 1} → statement M
 put-in-byte-spec =

@@ -40,9 +40,9 @@ mul-enter c = search needs
 
 enter-requires : tie.Need-enter-requires Inv-loop μ-loop
 enter-requires c κs =
-    let l = c .before .before .before .before .before .loop in
-    let ready = l .inv .swept .ready in
-    (common-locations (c .before .before .before .before .before .before .args .t1) (l .fresh) (l .k) (ready .locations), ready .whole)
+    let l = c .before .before .before .before .before in
+    let ready = l .loop .inv .swept .ready in
+    (common-locations (l .before .args .t1) (l .loop .fresh) (l .loop .k) (ready .locations), ready .whole)
 
 add-k : tie.Need-add-k Inv-loop μ-loop
 add-k c = search needs

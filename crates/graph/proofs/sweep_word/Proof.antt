@@ -44,10 +44,10 @@ sub-w : tie.Need-sub-w Inv-loop μ-loop
 sub-w c = search needs
 
 loop-less : tie.Need-loop-less Inv-loop μ-loop
-loop-less c = word-less (c .before .before .before .before .before .before .loop .inv .left) (c .before .before .before .before .before .loop-test .taken)
+loop-less c = let t = c .before .before .before .before .before in word-less (t .before .loop .inv .left) (t .loop-test .taken)
 
 loop-again : tie.Need-loop-again Inv-loop μ-loop
-loop-again c = word-sweep-next (c .before .before .before .before .before .before .loop .inv) (c .before .before .before .before .before .loop-test .taken) (c .sweep .ensures)
+loop-again c = let t = c .before .before .before .before .before in word-sweep-next (t .before .loop .inv) (t .loop-test .taken) (c .sweep .ensures)
 
 returns : tie.Need-returns Inv-loop μ-loop
 returns c = word-sweep-ended (c .before .loop .inv) (c .loop-test .left)

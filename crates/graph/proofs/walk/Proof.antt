@@ -14,6 +14,10 @@ Inv-loop held links parent₀ depth₀ fresh₀ frontier₀ d₀ parent depth fr
 abbrev μ-loop : tie.MeasureT-loop
 μ-loop held links parent₀ depth₀ fresh₀ frontier₀ d₀ parent depth fresh frontier d = slotsMax - d
 
+-- the loop's test, where the next level is called
+abbrev turn : tie.After-depth Inv-loop μ-loop → tie.At-loop Inv-loop μ-loop
+turn c = c .before .before .before .before .before .before .before
+
 array-write-frontier : tie.Need-array-write-frontier Inv-loop μ-loop
 array-write-frontier c = search needs
 
@@ -28,7 +32,7 @@ add-d c = search needs
 
 level-requires : tie.Need-level-requires Inv-loop μ-loop
 level-requires c κs =
-    let l = c .before .before .before .before .before .before .before in
+    let l = turn c in
     (frontier-locations (l .before .pre) (l .loop .inv), l .loop .inv .ready)
 
 differ-requires : tie.Need-differ-requires Inv-loop μ-loop
@@ -39,7 +43,7 @@ loop-less c = search needs
 
 loop-again : tie.Need-loop-again Inv-loop μ-loop
 loop-again c =
-    let l = c .before .before .before .before .before .before .before .before .before in
+    let l = turn (c .before .before) in
     next (l .before .pre) (l .loop .inv) (omega arith) (c .before .level .ensures) (c .differ .ensures)
 
 differ-requires-2 : tie.Need-differ-requires-2 Inv-loop μ-loop

@@ -1,36 +1,40 @@
 -- `body_fault` finds the first fault of the parts after the header. Assumes nothing.
 use mathlib.Core.Path.{_≡_, refl, sym, ap, _∙_}
-use native.Mathlib.Omega.{arith}
-use mathlib.Core.Bool.{Bool, not}
+use mathlib.Core.Bool.{not}
 use mathlib.Core.List.{List}
 use Prim.Native.Nat.{ℕ}
 use lib.ListN.{drop}
-use Rattle.lists.specs.Lists.{on, first}
+use Rattle.lists.specs.Lists.{first}
 use Rattle.lists.proofs.Faults.{skip-at, stop-at, end-at}
-use Rattle.picture.specs.declared.Header.{Header}
 use Rattle.picture.specs.Layout.{edition1}
 use Rattle.picture.specs.Picture.{pictureWith}
 use Rattle.picture.specs.Faults.{bodyFaults}
+use Rattle.picture.proofs.Finding.{tells, passes}
 use borrow.Author.Needs.{needs}
 use Rattle.picture.proofs.body_fault.Statement.{statement}
 use Rattle.picture.proofs.body_fault.Tie as tie
 
 -- the faults that are judged, in their order
-abbrev faults : Header → List ℕ → List ℕ
-faults h s = bodyFaults edition1 h (pictureWith edition1 h s) s
+abbrev faults : tie.Else1 → List ℕ
+faults c =
+    let a = c .before .before .before .args in
+    bodyFaults edition1 (a .h) (pictureWith edition1 (a .h) (a .s .now)) (a .s .now)
 
--- what is found further on is the first fault where the parts before it have none
-past-states : (c : tie.Else1) {z : ℕ} → z ≡ first (drop 1 (faults (c .before .before .before .args .h) (c .before .before .before .args .s .now))) → z ≡ first (faults (c .before .before .before .args .h) (c .before .before .before .args .s .now))
-unfolding bodyFaults
-past-states c e = skip-at _ (c .if1 .left) (c .before .states-fault .ensures) e
+-- none of the first k is a fault: the first of the rest is the first of all
+abbrev Past : ℕ → tie.Else1 → Type 0
+Past k c = first (drop k (faults c)) ≡ first (faults c)
 
-past-links : (c : tie.Else2) {z : ℕ} → z ≡ first (drop 2 (faults (c .before .before .before .before .before .args .h) (c .before .before .before .before .before .args .s .now))) → z ≡ first (faults (c .before .before .before .before .before .args .h) (c .before .before .before .before .before .args .s .now))
+past-states : (c : tie.Else1) → Past 1 c
 unfolding bodyFaults
-past-links c e = past-states (c .before .before) (skip-at _ (c .if2 .left) (c .before .links-fault .ensures) e)
+past-states c = skip-at _ (c .if1 .left) (c .before .states-fault .ensures) refl
 
-past-services : (c : tie.Else3) {z : ℕ} → z ≡ first (drop 3 (faults (c .before .before .before .before .before .before .before .args .h) (c .before .before .before .before .before .before .before .args .s .now))) → z ≡ first (faults (c .before .before .before .before .before .before .before .args .h) (c .before .before .before .before .before .before .before .args .s .now))
+past-links : (c : tie.Else2) → Past 2 (c .before .before)
 unfolding bodyFaults
-past-services c e = past-links (c .before .before) (skip-at _ (c .if3 .left) (c .before .service-links-fault .ensures) e)
+past-links c = skip-at _ (c .if2 .left) (c .before .links-fault .ensures) refl ∙ past-states (c .before .before)
+
+past-services : (c : tie.Else3) → Past 3 (c .before .before .before .before)
+unfolding bodyFaults
+past-services c = skip-at _ (c .if3 .left) (c .before .service-links-fault .ensures) refl ∙ past-links (c .before .before)
 
 states-fault-requires : tie.Need-states-fault-requires
 states-fault-requires c κs = search needs
@@ -44,25 +48,25 @@ links-fault-requires c κs = search needs
 
 returns-2 : tie.Need-returns-2
 unfolding bodyFaults
-returns-2 c = past-states (c .before .before) (stop-at _ (c .if2 .taken) (c .before .links-fault .ensures))
+returns-2 c = stop-at _ (c .if2 .taken) (c .before .links-fault .ensures) ∙ past-states (c .before .before)
 
 service-links-fault-requires : tie.Need-service-links-fault-requires
 service-links-fault-requires c κs = search needs
 
 returns-3 : tie.Need-returns-3
 unfolding bodyFaults
-returns-3 c = past-links (c .before .before) (stop-at _ (c .if3 .taken) (c .before .service-links-fault .ensures))
+returns-3 c = stop-at _ (c .if3 .taken) (c .before .service-links-fault .ensures) ∙ past-links (c .before .before)
 
 end-right-requires : tie.Need-end-right-requires
 end-right-requires c κs = search needs
 
 returns-4 : tie.Need-returns-4
-unfolding bodyFaults on
-returns-4 c = past-services (c .before .before) (skip-at {x = 0} _ refl (ap (λ (b : Bool). on (not b) 7) (sym (c .if4 .taken) ∙ c .before .end-right .ensures)) end-at)
+unfolding bodyFaults
+returns-4 c = end-at ∙ passes 7 _ (ap not (sym (c .before .end-right .ensures) ∙ c .if4 .taken)) ∙ past-services (c .before .before)
 
 returns-5 : tie.Need-returns-5
-unfolding bodyFaults on
-returns-5 c = past-services (c .before .before) (stop-at {x = 7} _ (λ z. absurd (omega arith)) (ap (λ (b : Bool). on (not b) 7) (sym (c .if4 .left) ∙ c .before .end-right .ensures)))
+unfolding bodyFaults
+returns-5 c = tells _ (ap not (sym (c .before .end-right .ensures) ∙ c .if4 .left)) ∙ past-services (c .before .before)
 
 pub body-fault-spec : {M : Type 1} → statement M
 body-fault-spec =

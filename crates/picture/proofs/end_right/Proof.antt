@@ -2,9 +2,7 @@
 use mathlib.Core.Path.{_≡_, sym, ap, ap₂, _∙_}
 use native.Mathlib.Omega.{arith}
 use Prim.Native.Nat.{ℕ, _+_, _-_, _*_, _^_, _≤_, _<_}
-use mathlib.Core.Bool.{Bool, _&&_}
 use lib.Dec.{eqb}
-use lib.ListN.{length}
 use borrow.Author.Tests.{eq-eqb, ne-eqb}
 use Rattle.bits.specs.Bits.{fieldAt}
 use Rattle.picture.specs.Layout.{edition1, endAt, sizeOf}
@@ -25,21 +23,26 @@ record Sized (h : Header) (z f : ℕ) : Type 0 where
   pub tight : z * 8 ≤ f + 7
   pub small : f < 2 ^ 20
 
-sized : (c : tie.After-find-places) → Sized (c .before .before .before .args .h) (c .before .size-of .result) (c .find-places .result .end)
+-- the entry, where the fill bits are read
+abbrev start : tie.After-find-places → tie.Start
+start c = c .before .before .before
+
+sized : (c : tie.After-find-places) → Sized (start c .args .h) (c .before .size-of .result) (c .find-places .result .end)
 unfolding placesOf
 sized c =
-    let h = c .before .before .before .args .h in
+    let h = start c .args .h in
     let z = c .before .size-of .ensures in
     let e = ap (λ (p : Places). p .end) (c .find-places .ensures) in
     let r = rounded h in
-    let o = ordered h (c .before .before .before .pre) in
+    let o = ordered h (start c .pre) in
     record { size = z; end = e; room = omega arith; tight = omega arith; small = omega arith }
 
 -- the fill bits as they were read
-fill : (c : tie.After-field) → c .field .result ≡ fieldAt (c .before .before .before .before .args .s .now) (endAt edition1 (c .before .before .before .before .args .h)) (sizeOf edition1 (c .before .before .before .before .args .h) * 8 - endAt edition1 (c .before .before .before .before .args .h))
+fill : (c : tie.After-field) → let a = start (c .before) .args in let e = endAt edition1 (a .h) in
+    c .field .result ≡ fieldAt (a .s .now) e (sizeOf edition1 (a .h) * 8 - e)
 fill c =
     let k = sized (c .before) in
-    c .field .ensures ∙ ap₂ (λ (e z : ℕ). fieldAt (c .before .before .before .before .args .s .now) e (z * 8 - e)) (k .end) (k .size)
+    c .field .ensures ∙ ap₂ (λ (e z : ℕ). fieldAt (start (c .before) .args .s .now) e (z * 8 - e)) (k .end) (k .size)
 
 size-of-requires : tie.Need-size-of-requires
 size-of-requires c κs = search needs
@@ -58,16 +61,11 @@ field-requires c κs = omega (arith, sized c)
 
 returns : tie.Need-returns
 unfolding endRight
-returns c =
-    let a = c .before .before .before .before .before .args in
-    sym (ap (λ (b : Bool). b && eqb (length (a .s .now)) (sizeOf edition1 (a .h))) (ne-eqb _ _ (λ z. c .if1 .taken (fill (c .before) ∙ z))))
+returns c = rw (ne-eqb _ _ (λ z. c .if1 .taken (fill (c .before) ∙ z)))
 
 returns-2 : tie.Need-returns-2
 unfolding endRight
-returns-2 c =
-    let a = c .before .before .before .before .before .args in
-    ap (eqb (length (a .s .now))) (sized (c .before .before) .size)
-    ∙ sym (ap (λ (b : Bool). b && eqb (length (a .s .now)) (sizeOf edition1 (a .h))) (eq-eqb _ _ (sym (fill (c .before)) ∙ c .if1 .left)))
+returns-2 c = rw (eq-eqb _ _ (sym (fill (c .before)) ∙ c .if1 .left)) (ap (eqb _) (sized (c .before .before) .size))
 
 pub end-right-spec : {M : Type 1} → statement M
 end-right-spec =

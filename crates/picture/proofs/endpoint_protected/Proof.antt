@@ -37,10 +37,11 @@ field-requires c κs = search needs
 returns : tie.Need-returns
 unfolding placesOf endpointAt endpointWidths sum
 returns c =
-    let a = c .before .before .before .before .args in
-    let pre = c .before .before .before .before .pre in
-    ap (λ (x : ℕ). eqb x 1) (c .field .ensures ∙ ap (λ (p : Places). fieldAt (a .s .now) (p .endpoints + (a .c - 1) * 17 + 16) 1) (c .before .before .find-places .ensures))
-    ∙ sym (ap (λ (x : Endpoint). x .protected) (endpoint-row edition1 (a .h) (a .s .now) (a .c) (pre .1) (pre .2)) ∙ ap (λ (x : ℕ). eqb x 1) (field-second _ _ _ _ _))
+    let k = c .before .before .before .before in
+    let a = k .args in
+    let read = ap (λ (p : Places). fieldAt (a .s .now) (p .endpoints + (a .c - 1) * 17 + 16) 1) (c .before .before .find-places .ensures) in
+    let row = endpoint-row edition1 (a .h) (a .s .now) (a .c) (k .pre .1) (k .pre .2) in
+    ap (λ (x : ℕ). eqb x 1) (c .field .ensures ∙ read ∙ sym (field-second _ _ _ _ _)) ∙ sym (ap (λ (x : Endpoint). x .protected) row)
 
 pub endpoint-protected-spec : {M : Type 1} → statement M
 endpoint-protected-spec =

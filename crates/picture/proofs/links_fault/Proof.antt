@@ -1,41 +1,24 @@
 -- `links_fault` finds the first link that names what is not there. Assumes nothing.
-use mathlib.Core.Path.{_≡_, sym, ap, _∙_}
-use Prim.Native.Nat.{ℕ, _-_, _≤_, zero-le}
+use Prim.Native.Nat.{_-_}
 use native.Mathlib.Omega.{arith}
-use lib.ListN.{getD}
-use mathlib.Core.List.{List}
-use Rattle.lists.proofs.Faults.{Clean, scan-begun, scan-miss, scan-hit, scan-ended}
-use Rattle.picture.specs.declared.Link.{Link}
-use Rattle.picture.specs.declared.Header.{Header}
 use Rattle.picture.specs.Layout.{edition1}
 use Rattle.picture.specs.Picture.{pictureWith}
 use Rattle.picture.specs.Faults.{linkFault}
 use Rattle.picture.specs.Rules.{noLink}
 use Rattle.picture.proofs.Starts.{links-length}
+use Rattle.picture.proofs.Finding.{Scanning, scanning-begun, scanning-hit, scanning-miss, scanning-ended}
 use borrow.Author.Needs.{needs}
 use Rattle.picture.proofs.links_fault.Statement.{statement}
 use Rattle.picture.proofs.links_fault.Tie as tie
 
--- the list that is scanned, and the fault of an element
-abbrev list : Header → List ℕ → List Link
-list h s = pictureWith edition1 h s .links
-
-abbrev judged : Header → Link → ℕ
-judged h = linkFault (h .slots)
-
 abbrev Inv-loop : tie.InvT-loop
-Inv-loop s h count i₀ i = (i ≤ h .links) × Clean (judged h) noLink (list h s) i
+Inv-loop s h count i₀ i = Scanning (linkFault (h .slots)) noLink (pictureWith edition1 h s .links) (h .links) i
 
 abbrev μ-loop : tie.MeasureT-loop
 μ-loop s h count i₀ i = h .links - i
 
--- what was found of the element at hand
-found : (c : tie.After-link-fault Inv-loop μ-loop)
-    → c .link-fault .result ≡ judged (c .before .before .before .before .before .args .h) (getD (list (c .before .before .before .before .before .args .h) (c .before .before .before .before .before .args .s .now)) (c .before .before .before .loop .i) noLink)
-found c = c .link-fault .ensures ∙ ap (judged (c .before .before .before .before .before .args .h)) (c .before .nth-link .ensures)
-
 loop-holds : tie.Need-loop-holds Inv-loop μ-loop
-loop-holds c = (zero-le, scan-begun _ _ _)
+loop-holds c = scanning-begun (links-length edition1 _ _)
 
 nth-link-requires : tie.Need-nth-link-requires Inv-loop μ-loop
 nth-link-requires c κs = search needs
@@ -45,9 +28,8 @@ link-fault-requires c κs = search needs
 
 returns : tie.Need-returns Inv-loop μ-loop
 returns c =
-    let a = c .before .before .before .before .before .before .args in
-    let l = c .before .before .before .before .loop in
-    scan-hit (judged (a .h)) noLink (list (a .h) (a .s .now)) (l .i) (l .inv .1) (omega (arith, links-length edition1 (a .h) (a .s .now))) (found (c .before)) (c .if1 .taken)
+    let k = c .before .before in
+    scanning-hit (k .before .before .loop .inv) (omega arith) (k .nth-link .ensures) (c .before .link-fault .ensures) (c .if1 .taken)
 
 add-i : tie.Need-add-i Inv-loop μ-loop
 add-i c = search needs
@@ -57,15 +39,11 @@ loop-less c = search needs
 
 loop-again : tie.Need-loop-again Inv-loop μ-loop
 loop-again c =
-    let a = c .before .before .before .before .before .before .args in
-    let l = c .before .before .before .before .loop in
-    (omega arith, scan-miss (judged (a .h)) noLink (list (a .h) (a .s .now)) (l .i) (l .inv .1) (sym (found (c .before)) ∙ c .if1 .left))
+    let k = c .before .before in
+    scanning-miss (k .before .before .loop .inv) (omega arith) (k .nth-link .ensures) (c .before .link-fault .ensures) (c .if1 .left)
 
 returns-2 : tie.Need-returns-2 Inv-loop μ-loop
-returns-2 c =
-    let a = c .before .before .before .args in
-    let l = c .before .loop in
-    scan-ended (judged (a .h)) noLink (list (a .h) (a .s .now)) (l .i) (l .inv .1) (omega (arith, links-length edition1 (a .h) (a .s .now)))
+returns-2 c = scanning-ended (c .before .loop .inv) (omega arith)
 
 pub links-fault-spec : {M : Type 1} → statement M
 links-fault-spec =

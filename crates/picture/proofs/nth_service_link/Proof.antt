@@ -29,7 +29,8 @@ returns : tie.Need-returns
 unfolding placesOf serviceLinkWidths sum
 returns c =
     let a = c .before .before .before .before .args in
-    c .link-at .ensures ∙ ap (λ (p : Places). linkAt (serviceLinkWidths edition1) (a .s .now) (p .«service_links» + a .i * 16)) (c .before .before .find-places .ensures)
+    c .link-at .ensures
+    ∙ ap (λ (p : Places). linkAt (serviceLinkWidths edition1) (a .s .now) (p .«service_links» + a .i * 16)) (c .before .before .find-places .ensures)
     ∙ sym (service-row edition1 (a .h) (a .s .now) (a .i) (c .before .before .before .before .pre .1))
 
 pub nth-service-link-spec : {M : Type 1} → statement M

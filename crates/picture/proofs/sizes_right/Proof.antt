@@ -1,9 +1,22 @@
 -- `sizes_right` tests β and n. Assumes nothing.
+use mathlib.Core.Path.{_≡_}
+use mathlib.Core.Bool.{_&&_}
+use Prim.Native.Nat.{_/_, _%_}
+use lib.Dec.{eqb, leb}
 use borrow.Author.Tests.{lt-leb, le-leb, eq-eqb, ne-eqb}
+use Rattle.picture.specs.Layout.{edition1, blocksMax}
 use Rattle.picture.specs.Faults.{sizesRight}
 use borrow.Author.Needs.{needs}
 use Rattle.picture.proofs.sizes_right.Statement.{statement}
 use Rattle.picture.proofs.sizes_right.Tie as tie
+
+-- what is left to test, where the limits of β and n hold
+limits : (c : tie.Else4) → let h = c .before .before .before .before .args .h in
+    sizesRight edition1 h ≡ (eqb (h .slots % h .«block_size») 0 && leb (h .slots / h .«block_size») blocksMax)
+unfolding sizesRight
+limits c =
+    let k = c .before in
+    rw (le-leb _ _ (k .before .before .if1 .left), le-leb _ _ (k .before .if2 .left), le-leb _ _ (k .if3 .left), le-leb _ _ (c .if4 .left))
 
 returns : tie.Need-returns
 unfolding sizesRight
@@ -19,21 +32,21 @@ returns-3 c = rw (le-leb _ _ (c .before .before .if1 .left), le-leb _ _ (c .befo
 
 returns-4 : tie.Need-returns-4
 unfolding sizesRight
-returns-4 c = rw (le-leb _ _ (c .before .before .before .if1 .left), le-leb _ _ (c .before .before .if2 .left), le-leb _ _ (c .before .if3 .left), lt-leb _ _ (c .if4 .taken))
+returns-4 c =
+    let k = c .before in
+    rw (le-leb _ _ (k .before .before .if1 .left), le-leb _ _ (k .before .if2 .left), le-leb _ _ (k .if3 .left), lt-leb _ _ (c .if4 .taken))
 
 rem-if5 : tie.Need-rem-if5
 rem-if5 c = search needs
 
 returns-5 : tie.Need-returns-5
-unfolding sizesRight
-returns-5 c = rw (le-leb _ _ (c .before .before .before .before .if1 .left), le-leb _ _ (c .before .before .before .if2 .left), le-leb _ _ (c .before .before .if3 .left), le-leb _ _ (c .before .if4 .left), ne-eqb _ _ (c .if5 .taken))
+returns-5 c = rw (limits (c .before), ne-eqb _ _ (c .if5 .taken))
 
 div-result : tie.Need-div-result
 div-result c = search needs
 
 returns-6 : tie.Need-returns-6
-unfolding sizesRight
-returns-6 c = rw (le-leb _ _ (c .before .before .before .before .if1 .left), le-leb _ _ (c .before .before .before .if2 .left), le-leb _ _ (c .before .before .if3 .left), le-leb _ _ (c .before .if4 .left), eq-eqb _ _ (c .if5 .left))
+returns-6 c = rw (limits (c .before), eq-eqb _ _ (c .if5 .left))
 
 pub sizes-right-spec : {M : Type 1} → statement M
 sizes-right-spec =

@@ -1,5 +1,5 @@
 -- `is_lost_protected` looks at the mark of a lost endpoint. Assumes nothing.
-use mathlib.Core.Path.{_≡_, refl, sym, ap, _∙_}
+use mathlib.Core.Path.{sym, ap, _∙_}
 use mathlib.Core.Bool.{Bool, _&&_, and-true, and-false}
 use Rattle.rows.specs.Rows.{marked}
 use borrow.Author.Needs.{needs}
