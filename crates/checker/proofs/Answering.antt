@@ -3,9 +3,9 @@ use mathlib.Core.Path.{_≡_, refl, sym, ap, _∙_}
 use mathlib.Core.Bool.{true, false, not, Bool·not-not}
 use mathlib.Core.Logic.{_≢_}
 use mathlib.Core.List.{List, [], _∷_, _++_, map}
-use Prim.Native.Nat.{ℕ, zero, suc, _≤_, _<_}
+use Prim.Native.Nat.{ℕ, zero, suc, _<_}
 use native.Mathlib.Omega.{arith}
-use lib.Dec.{T, eqb}
+use lib.Dec.{eqb}
 use lib.ListN.{length, getD}
 use Rattle.lists.specs.Lists.{range, on, first, outcome}
 use Rattle.lists.proofs.Ranges.{length-range, map-shift, range-made}
@@ -14,7 +14,6 @@ use Rattle.picture.specs.Layout.{edition1}
 use Rattle.picture.specs.Picture.{Picture, pictureOf}
 use Rattle.picture.specs.Faults.{pictureFault}
 use Rattle.network.specs.Words.{slotCount, isHeld}
-use Rattle.network.specs.declared.Cost.{Cost}
 use Rattle.network.specs.Tests.{servedWeight, candidates}
 use Rattle.network.proofs.Weights.{weighed-block}
 use Rattle.evidence.specs.Canonical.{noCost, weighings}
@@ -41,10 +40,12 @@ module _ (bs ev : List ℕ) where
   check-parts : checkFault bs ev ≡ first (pictureFault bs ∷ on (not (formRight edition1 p ev)) 13 ∷ partsFault bs ev ∷ rest)
   unfolding checkFault partsFault partFault range
   check-parts =
-      let a : List ℕ = on (not (forestRight p (isHeld p) (firstForest edition1 (slotCount p) ev))) 14 ∷ on (not (eqb (headIn ev .served) (servedWeight p))) 15 ∷ [] in
+      let forest : ℕ = on (not (forestRight p (isHeld p) (firstForest edition1 (slotCount p) ev))) 14 in
+      let a : List ℕ = forest ∷ on (not (eqb (headIn ev .served) (servedWeight p))) 15 ∷ [] in
       let k : List ℕ = pictureFault bs ∷ on (not (formRight edition1 p ev)) 13 ∷ [] in
       let m : List ℕ = map (partFault bs ev) (range 1 (length (candidates p))) in
-      let same : map (sectionFault edition1 p ev (weighings p)) (range 0 (length (weighings p))) ≡ m = rw weighings-length (sym (map-shift (partFault bs ev) 0 (length (candidates p)))) in
+      let same : map (sectionFault edition1 p ev (weighings p)) (range 0 (length (weighings p))) ≡ m =
+      rw weighings-length (sym (map-shift (partFault bs ev) 0 (length (candidates p)))) in
       rw same (first-in (k ++ a) m rest ∙ sym (first-in k (first a ∷ m) rest ∙ first-in k a (m ++ rest)))
 
   -- the picture has a fault
@@ -69,15 +70,18 @@ module _ (bs ev : List ℕ) where
         unfolding partFault partsFault sectionFault numbersTest
         section-right i h =
             let l : i < length (candidates p) = rw weighings-length at h in
-            let z = ap (partFault bs ev) (sym (part-of bs (suc i) l)) ∙ first-map-none (partFault bs ev) 0 (parts bs) (sym none) (suc i) (rw length-range (omega arith)) in
+            let y = first-map-none (partFault bs ev) 0 (parts bs) (sym none) (suc i) (rw length-range (omega arith)) in
+            let z = rw part-of at y in
             let w = getD (weighings p) i noCost in
             let s = test-numbers edition1 p ev i w (rw Bool·not-not at (on-zero (not (numbersTest edition1 p ev i w)) 14 (first-zero _ z 1))) in
-            let b = right-form edition1 p ev (rw f tt) .blocks i l ∙ sym (ap (λ (c : Cost). c .block) (weighing-at p i l) ∙ weighed-block p (getD (candidates p) i 0)) in
+            let c : w .block ≡ getD (candidates p) i 0 = rw (weighing-at p i l) (weighed-block p (getD (candidates p) i 0)) in
+            let b = right-form edition1 p ev (rw f tt) .blocks i l ∙ sym c in
             λ j. record { block = b j; loss = s .0 j; mark = s .1 j }
 
         pub stated-weighings : {n count : ℕ} → slotCount p ≡ n → count ≡ length (candidates p) → stated n ev count ≡ weighings p
         unfolding stated
-        stated-weighings many counted = rw (← many, counted, ← weighings-length p) (range-made noCost (sectionIn edition1 (slotCount p) ev) (weighings p) section-right)
+        stated-weighings many counted =
+            rw (← many, counted, ← weighings-length p) (range-made noCost (sectionIn edition1 (slotCount p) ev) (weighings p) section-right)
 
         -- the verdict is wrong, or nothing is
         pub check-verdict : verdictRight ev (weighings p) ≡ false → 16 ≡ checkFault bs ev
@@ -108,14 +112,18 @@ module _ (bs ev : List ℕ) where
       go zero e = let z : _≡_ {A = ℕ} 0 1 = cc in omega arith
       go (suc k) e = let z : suc k ≡ 0 = cc in omega arith
 
-  told : {r : Checking} → r ≡ checking bs ev → (r ≡ checking bs ev) × ((checkingNumbers r ≡ outcome (checkFault bs ev) []) × (r ≢ Refused 0))
+  -- what check ensures of its answer
+  abbrev Told : Checking → Type 0
+  Told r = (r ≡ checking bs ev) × ((checkingNumbers r ≡ outcome (checkFault bs ev) []) × (r ≢ Refused 0))
+
+  told : {r : Checking} → r ≡ checking bs ev → Told r
   told e = (e, (ap checkingNumbers e ∙ checking-numbers, λ z. checking-refusals (sym e ∙ z)))
 
-  pub told-passed : {k : ℕ} → k ≡ 0 → k ≡ checkFault bs ev → (Passed ≡ checking bs ev) × ((checkingNumbers Passed ≡ outcome (checkFault bs ev) []) × (Passed ≢ Refused 0))
+  pub told-passed : {k : ℕ} → k ≡ 0 → k ≡ checkFault bs ev → Told Passed
   unfolding checking checkingOf
   told-passed z e = told (ap checkingOf (sym z ∙ e))
 
-  pub told-refused : (k : ℕ) → k ≢ 0 → k ≡ checkFault bs ev → (Refused k ≡ checking bs ev) × ((checkingNumbers (Refused k) ≡ outcome (checkFault bs ev) []) × (Refused k ≢ Refused 0))
+  pub told-refused : (k : ℕ) → k ≢ 0 → k ≡ checkFault bs ev → Told (Refused k)
   unfolding checking checkingOf
   told-refused zero n e = absurd (n refl)
   told-refused (suc k) n e = told (ap checkingOf e)

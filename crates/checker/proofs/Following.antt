@@ -47,7 +47,8 @@ module _ {table : List (List ℕ)} {left : List ℕ} {es : List Node} where
     followed-out z = record { right = more; scanned = scanned-miss (deep es) _ v l (f .scanned) (rw (eq-eqb _ _ z)) }
 
 -- a slot breaks its rule
-pub node-broken : (linked : ℕ → ℕ → Bool) (held : ℕ → Bool) (es : List Node) {n v : ℕ} → 1 ≤ v → v ≤ n → nodeRight linked held es v ≡ false → ¬ ForestKept linked held n es
+pub node-broken : (linked : ℕ → ℕ → Bool) (held : ℕ → Bool) (es : List Node) {n v : ℕ} → 1 ≤ v → v ≤ n → nodeRight linked held es v ≡ false
+    → ¬ ForestKept linked held n es
 node-broken linked held es {v = v} l m e k = subst T e (node-right linked held es v (k .nodes v l m))
 
 -- ---- the links
@@ -78,14 +79,16 @@ module _ {table : List (List ℕ)} {inner outer : List ℕ} where
 
 -- ---- the forest, whose slots were followed to the end
 
-module _ {table : List (List ℕ)} {left : List ℕ} {es : List Node} {n v : ℕ} (len : length es ≡ n) {slots inner outer : List ℕ} (w : With slots 0 inner) (m : Minus left inner outer)
-    (f : Followed table left es slots v) (ended : n < v) where
-  -- the marks are what is in the forest
+module _ {table : List (List ℕ)} {left : List ℕ} {es : List Node} {n v : ℕ} (len : length es ≡ n) {slots inner outer : List ℕ} (w : With slots 0 inner)
+    (m : Minus left inner outer) (f : Followed table left es slots v) (ended : n < v) where
+  -- every slot of depth above 0 was seen
+  seen : (u : ℕ) → T (deep es u) → (1 ≤ u) × (u < v)
+  seen u t = let s = deep-slot es u (λ z. T-not (eqb (nodeOf es u .depth) 0) t (rw z tt)) in (s .0, omega (arith, s .1))
+
+  -- so the marks are what is in the forest
   pub inner-in : (u : ℕ) → marked inner u ≡ isIn es u
   unfolding isIn
-  inner-in u =
-      let all = scanned-all (deep es) slots v (f .scanned) (λ u t. let s = deep-slot es u (λ z. T-not (eqb (nodeOf es u .depth) 0) t (rw z tt)) in (s .0, omega (arith, s .1))) in
-      w .marks u ∙ rw (all u) (or-comm (deep es u) (eqb u 0))
+  inner-in u = w .marks u ∙ rw (scanned-all (deep es) slots v (f .scanned) seen u) (or-comm (deep es u) (eqb u 0))
 
   -- and the other marks are what is held and not in it
   outer-out : (u : ℕ) → T (marked outer u) → T (heldIn left u) × ¬ In es u
@@ -107,7 +110,8 @@ module _ {table : List (List ℕ)} {left : List ℕ} {es : List Node} {n v : ℕ
       let b = k .common tt .0 in
       let o = outer-out b (k .common tt .2) in
       let slot : b ≢ 0 = λ z. o .1 (inl z) in
-      q .closed a b (k .common tt .1) (test-in es a (subst T (inner-in a) i)) (omega arith) (by-cases (ℕ-discrete (nodeOf es b .depth) 0) (λ z. z) (λ d. absurd (o .1 (inr d)))) (o .0)
+      let flat = by-cases (ℕ-discrete (nodeOf es b .depth) 0) (λ z. z) (λ d. absurd (o .1 (inr d))) in
+      q .closed a b (k .common tt .1) (test-in es a (subst T (inner-in a) i)) (omega arith) flat (o .0)
 
   -- none does
   pub forest-kept : ((a b : ℕ) → T (linkedIn table a b) → a ≤ n) → {a : ℕ} → Closed table inner outer a → n < a → ForestKept (linkedIn table) (heldIn left) n es
@@ -115,5 +119,6 @@ module _ {table : List (List ℕ)} {left : List ℕ} {es : List Node} {n v : ℕ
       record {
         nodes = λ u l h. right-node (linkedIn table) (heldIn left) es u (rw (f .right u l (omega arith)) tt);
         closed = λ a b j i l z h.
-            c .shut a (omega (arith, low a b j)) (subst T (sym (inner-in a)) (in-test es a i)) b j (out-outer b h (⊎-elim (λ o. absurd (omega arith)) (λ d. d z)));
+            let out = out-outer b h (⊎-elim (λ o. absurd (omega arith)) (λ d. d z)) in
+            c .shut a (omega (arith, low a b j)) (subst T (sym (inner-in a)) (in-test es a i)) b j out;
       }

@@ -56,7 +56,8 @@ module _ (n : ℕ) (ev near : List ℕ) (size : ℕ) where
         record { few = omega (arith, f .few); counted = rw same (f .counted); tested = rw same (f .tested) }
 
     -- it is one, and its section is right or is not
-    pub forming-hit : {right′ : Bool} → blockMarked near size b ≡ true → right′ ≡ (right && sectionTest n ev count b) → Forming n ev near size right′ (count + 1) (b + 1)
+    pub forming-hit : {right′ : Bool} → blockMarked near size b ≡ true → right′ ≡ (right && sectionTest n ev count b)
+        → Forming n ev near size right′ (count + 1) (b + 1)
     forming-hit e r =
         let longer : blocksMarked near size (b + 1) ≡ blocksMarked near size b ++ (b ∷ []) = more b ∙ rw e in
         record {

@@ -85,9 +85,16 @@ given s e held c n z d l v w g =
 abbrev pic : Given → Picture
 pic x = pictureOf (x .bs)
 
+abbrev faultOf : Given → ℕ → ℕ
+faultOf x = partFault (x .bs) (x .ev)
+
 -- a row serves what is served where this is held
 abbrev Serves : Given → (ℕ → Bool) → List ℕ → Type 0
 Serves x held row = Meets (x .services) row (served (pic x) (marks (pic x) held))
+
+-- the forest of part k keeps its rules
+abbrev Kept : Given → ℕ → Type 0
+Kept x k = ForestKept (joins (pic x .links)) (heldAt (pic x) k) (x .n) (forestIn edition1 (x .n) (x .ev) (forestAt edition1 (x .n) k))
 
 -- the rows are the picture's, and the evidence has its form
 pub record Tables (x : Given) : Type 0 where
@@ -110,7 +117,7 @@ pub record Tables (x : Given) : Type 0 where
 -- the parts before k have no fault, and after the first the row marks what is reached with nothing evicted
 pub record Gone (x : Given) (row : List ℕ) (k : ℕ) : Type 0 where
   pub tables : Tables x
-  pub clean : Clean (partFault (x .bs) (x .ev)) 0 (parts (x .bs)) k
+  pub clean : Clean (faultOf x) 0 (parts (x .bs)) k
   pub reached : 1 ≤ k → Serves x (isHeld (pic x)) row
 
 -- part k is at hand: its forest starts at bit q, and this is held in it
@@ -136,8 +143,8 @@ pub record Inside (x : Given) (row : List ℕ) (k : ℕ) (inner outer : List ℕ
 -- ---- the tables
 
 module _ {bs ev held : List ℕ} {count : ℕ} {links services : List (List ℕ)} {weights guarded : List ℕ} {h : Header} (r : Read bs h) where
-  pub tables-made : (near : List ℕ) × SlotRowsOf (pictureOf bs) held near → formRight edition1 (pictureOf bs) ev ≡ true → count ≡ length (candidates (pictureOf bs))
-      → RowsOf locationsMax (joins (pictureOf bs .links)) links → RowsOf (suc endpointsMax) (λ c a. joins (pictureOf bs .serviceLinks) a c) services → EndpointsOf (pictureOf bs) weights guarded
+  pub tables-made : let p = pictureOf bs in (near : List ℕ) × SlotRowsOf p held near → formRight edition1 p ev ≡ true → count ≡ length (candidates p)
+      → RowsOf locationsMax (joins (p .links)) links → RowsOf (suc endpointsMax) (λ c a. joins (p .serviceLinks) a c) services → EndpointsOf p weights guarded
       → Tables (given bs ev held count (h .slots) (h .«block_size») (h .endpoints) links services weights guarded)
   tables-made s f c l v e =
       let p = pictureOf bs in
@@ -167,13 +174,13 @@ module _ {bs ev held : List ℕ} {count : ℕ} {links services : List (List ℕ)
 
 module _ {x : Given} where
   pub gone-begun : {row : List ℕ} → Tables x → Gone x row 0
-  gone-begun t = record { tables = t; clean = scan-begun (partFault (x .bs) (x .ev)) 0 (parts (x .bs)); reached = λ l. absurd (omega arith) }
+  gone-begun t = record { tables = t; clean = scan-begun (faultOf x) 0 (parts (x .bs)); reached = λ l. absurd (omega arith) }
 
   -- every part was gone over
   pub gone-ended : {row : List ℕ} {k : ℕ} → Gone x row k → x .count < k → 0 ≡ partsFault (x .bs) (x .ev)
   unfolding partsFault
   gone-ended {k = k} g l =
-      scan-ended (partFault (x .bs) (x .ev)) 0 (parts (x .bs)) k (g .clean) (omega (arith, length-range 0 (suc (length (candidates (pic x)))), g .tables .counted))
+      scan-ended (faultOf x) 0 (parts (x .bs)) k (g .clean) (omega (arith, length-range 0 (suc (length (candidates (pic x)))), g .tables .counted))
 
   -- a part is at hand
   pub part-begun : {row : List ℕ} {k q : ℕ} {left : List ℕ} → Gone x row k → k ≤ x .count → q ≡ forestAt edition1 (x .n) k
@@ -184,15 +191,17 @@ module _ {x : Given} where
 
   -- what the sums over the marks of a part come to
   module _ (t : Tables x) {row inner : List ℕ} where
-    sums-found : {k : ℕ} {before after : List ℕ} {w m : ℕ} → Sides row inner k before after → Serves x (heldAt (pic x) k) inner → (1 ≤ k → Serves x (isHeld (pic x)) row)
-        → LostBetween (x .services) (x .weights) (x .guarded) (x .d) before after w m → (w ≡ costAt (pic x) k .loss) × (1 ≤ k → m ≡ costAt (pic x) k .mark)
+    sums-found : {k : ℕ} {before after : List ℕ} {w m : ℕ} → Sides row inner k before after → Serves x (heldAt (pic x) k) inner
+        → (1 ≤ k → Serves x (isHeld (pic x)) row) → LostBetween (x .services) (x .weights) (x .guarded) (x .d) before after w m
+        → (w ≡ costAt (pic x) k .loss) × (1 ≤ k → m ≡ costAt (pic x) k .mark)
     unfolding heldAt costAt
     sums-found whole now r s = (served-met (t .end-rows) (t .endpoints) now (clear rowWords) s, λ l. absurd (omega arith))
     sums-found (less {i = i}) now r s =
         let all = r (suc-le-suc zero-le) in
         (loss-met (t .end-rows) (t .endpoints) all (blockAt (pic x) i) now s, λ _. mark-met (t .end-rows) (t .endpoints) all (blockAt (pic x) i) now s)
 
-    still : {k : ℕ} {before after : List ℕ} → Sides row inner k before after → Serves x (heldAt (pic x) k) inner → (1 ≤ k → Serves x (isHeld (pic x)) row) → Serves x (isHeld (pic x)) before
+    still : {k : ℕ} {before after : List ℕ} → Sides row inner k before after → Serves x (heldAt (pic x) k) inner → (1 ≤ k → Serves x (isHeld (pic x)) row)
+        → Serves x (isHeld (pic x)) before
     unfolding heldAt
     still whole now r = now
     still less now r = r (suc-le-suc zero-le)
@@ -208,17 +217,18 @@ module _ {x : Given} where
     most = omega (arith, a .most, t .counted)
 
     -- the part at hand has a fault
-    stopped : {y : ℕ} → y ≢ 0 → y ≡ partFault (x .bs) (x .ev) k → y ≡ partsFault (x .bs) (x .ev)
+    stopped : {y : ℕ} → y ≢ 0 → y ≡ faultOf x k → y ≡ partsFault (x .bs) (x .ev)
     unfolding partsFault
     stopped z e =
-        scan-hit (partFault (x .bs) (x .ev)) 0 (parts (x .bs)) k (a .gone .clean) (omega (arith, length-range 0 (suc (length (candidates (pic x)))), most))
-        (e ∙ ap (partFault (x .bs) (x .ev)) (sym (part-of (x .bs) k most))) z
+        scan-hit (faultOf x) 0 (parts (x .bs)) k (a .gone .clean) (omega (arith, length-range 0 (suc (length (candidates (pic x)))), most))
+        (e ∙ ap (faultOf x) (sym (part-of (x .bs) k most))) z
 
     -- the rows say what the picture says
-    same : ForestKept (linkedIn (x .links)) (heldIn left) (x .n) es ≡ ForestKept (joins (pic x .links)) (heldAt (pic x) k) (x .n) (forestIn edition1 (x .n) (x .ev) (forestAt edition1 (x .n) k))
+    same : ForestKept (linkedIn (x .links)) (heldIn left) (x .n) es ≡ Kept x k
     same =
         let links-same : linkedIn (x .links) ≡ joins (pic x .links) = fun-ext (λ u. fun-ext (λ v. t .link-rows .same u v)) in
-        let held-same : heldIn left ≡ heldAt (pic x) k = fun-ext (held-found (x .bs) (x .ev) (t .many) (t .form) (t .slots) k most (rw (← t .block-size) at (a .holding))) in
+        let holds = held-found (x .bs) (x .ev) (t .many) (t .form) (t .slots) k most (rw (← t .block-size) at (a .holding)) in
+        let held-same : heldIn left ≡ heldAt (pic x) k = fun-ext holds in
         rw (links-same, held-same, a .at)
 
     broken : ¬ ForestKept (linkedIn (x .links)) (heldIn left) (x .n) es → 14 ≡ partsFault (x .bs) (x .ev)
@@ -241,7 +251,7 @@ module _ {x : Given} where
 
     module _ {a : ℕ} (c : Closed (x .links) inner outer a) (looked : x .n < a) {before after : List ℕ} (y : Sides row inner k before after) {weight mark : ℕ}
         (s : LostBetween (x .services) (x .weights) (x .guarded) (x .d) before after weight mark) where
-      kept : ForestKept (joins (pic x .links)) (heldAt (pic x) k) (x .n) (forestIn edition1 (x .n) (x .ev) (forestAt edition1 (x .n) k))
+      kept : Kept x k
       kept =
           let low : (u v : ℕ) → T (linkedIn (x .links) u v) → u ≤ x .n =
           λ u v j. omega (arith, g .tables .many, g .tables .named .links u v (subst T (g .tables .link-rows .same u v) j) .0) in
@@ -267,6 +277,6 @@ module _ {x : Given} where
           let none = part-right (x .bs) (x .ev) (g .tables .many) k (most (i .part)) kept (sym stated ∙ e) in
           record {
             tables = g .tables;
-            clean = scan-miss (partFault (x .bs) (x .ev)) 0 (parts (x .bs)) k (g .clean) (ap (partFault (x .bs) (x .ev)) (part-of (x .bs) k (most (i .part))) ∙ none);
+            clean = scan-miss (faultOf x) 0 (parts (x .bs)) k (g .clean) (ap (faultOf x) (part-of (x .bs) k (most (i .part))) ∙ none);
             reached = λ _. still (g .tables) y now (g .reached);
           }

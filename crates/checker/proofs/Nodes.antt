@@ -1,5 +1,5 @@
 -- The nodes of a forest in the evidence, and what the test of one node comes to. Assumes nothing.
-use mathlib.Core.Path.{_≡_, refl, _∙_}
+use mathlib.Core.Path.{_≡_, _∙_}
 use mathlib.Core.Bool.{Bool, true, false, not, and-false, and-true}
 use mathlib.Core.Logic.{_≢_}
 use mathlib.Core.List.{List}
@@ -70,7 +70,8 @@ module _ (linked : ℕ → ℕ → Bool) (held : ℕ → Bool) (es : List Node) 
     node-not-linked l = rw (e, ne-eqb (x .depth) 0 deep, l) (simp and-false)
 
     -- held, linked, and its parent in the forest: the depths are compared
-    pub node-depths : held v ≡ true → linked (x .parent) v ≡ true → isIn es (x .parent) ≡ true → eqb (nodeOf es (x .parent) .depth + 1) (x .depth) ≡ nodeRight linked held es v
+    pub node-depths : held v ≡ true → linked (x .parent) v ≡ true → isIn es (x .parent) ≡ true
+        → eqb (nodeOf es (x .parent) .depth + 1) (x .depth) ≡ nodeRight linked held es v
     unfolding nodeRight
     node-depths h l i = rw (e, ne-eqb (x .depth) 0 deep, h, i, l) (simp and-true)
 

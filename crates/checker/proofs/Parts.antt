@@ -1,5 +1,5 @@
 -- The parts of evidence: what is held in them, what they are to state, and their faults. Assumes nothing.
-use mathlib.Core.Path.{_≡_, refl, sym, ap, _∙_, subst}
+use mathlib.Core.Path.{_≡_, refl, sym, ap, _∙_}
 use mathlib.Core.Bool.{Bool, true, false, not}
 use mathlib.Core.List.{List, [], _∷_}
 use Prim.Native.Nat.{ℕ, zero, suc, _-_, _≤_, zero-le, suc-le-suc}
@@ -17,7 +17,7 @@ use Rattle.picture.specs.Picture.{Picture, pictureOf}
 use Rattle.network.specs.Words.{slotCount, isHeld, heldWithout, joins}
 use Rattle.network.specs.declared.Cost.{Cost}
 use Rattle.network.specs.Tests.{weighed, servedWeight, candidates}
-use Rattle.network.specs.Rows.{SlotRowsOf, BlockRow}
+use Rattle.network.specs.Rows.{SlotRowsOf}
 use Rattle.network.proofs.Weights.{weighed-block}
 use Rattle.weigh.proofs.Serving.{left-held}
 use Rattle.evidence.specs.Layout.{forestAt}
@@ -51,8 +51,12 @@ module _ (bs ev : List ℕ) {n : ℕ} (many : slotCount (pictureOf bs) ≡ n) wh
   abbrev pub forestOf : ℕ → List Node
   forestOf k = forestIn edition1 n ev (forestAt edition1 n k)
 
+  -- whether it states what it is to state
+  abbrev pub statedRight : ℕ → Bool
+  statedRight k = statedTest n ev k (costAt p k .loss) (costAt p k .mark)
+
   pub part-fault : (k : ℕ) → k ≤ length (candidates p)
-      → partFault bs ev k ≡ first (on (not (forestRight p (heldAt p k) (forestOf k))) 14 ∷ on (not (statedTest n ev k (costAt p k .loss) (costAt p k .mark))) 15 ∷ [])
+      → partFault bs ev k ≡ first (on (not (forestRight p (heldAt p k) (forestOf k))) 14 ∷ on (not (statedRight k)) 15 ∷ [])
   unfolding partFault heldAt costAt statedTest sectionFault firstForest sectionForest
   part-fault zero l = rw many
   part-fault (suc i) l = rw (many, weighing-at p i l, weighed-block p (blockAt p i), eqb·suc-zero i, pred-suc i)
@@ -68,11 +72,11 @@ module _ (bs ev : List ℕ) {n : ℕ} (many : slotCount (pictureOf bs) ≡ n) wh
       right : forestRight p (heldAt p k) (forestOf k) ≡ true
       right = is-true _ (kept-right p (heldAt p k) (forestOf k) (rw many kept))
 
-      pub part-wrong : statedTest n ev k (costAt p k .loss) (costAt p k .mark) ≡ false → 15 ≡ partFault bs ev k
+      pub part-wrong : statedRight k ≡ false → 15 ≡ partFault bs ev k
       unfolding on first
       part-wrong s = sym (part-fault k l ∙ rw (right, s))
 
-      pub part-right : statedTest n ev k (costAt p k .loss) (costAt p k .mark) ≡ true → partFault bs ev k ≡ 0
+      pub part-right : statedRight k ≡ true → partFault bs ev k ≡ 0
       unfolding on first
       part-right s = part-fault k l ∙ rw (right, s)
 
@@ -90,7 +94,7 @@ module _ (bs ev : List ℕ) {n : ℕ} (many : slotCount (pictureOf bs) ≡ n) wh
         let k = h .less (suc-le-suc zero-le) in
         left-held p (blockAt p i) _ _ (k .0) _ s (rw (pred-suc i, formed-block i l) at (k .1)) (k .2) v
 
-  pub stated-found : (k : ℕ) {w m : ℕ} → w ≡ costAt p k .loss → (1 ≤ k → m ≡ costAt p k .mark) → statedTest n ev k w m ≡ statedTest n ev k (costAt p k .loss) (costAt p k .mark)
+  pub stated-found : (k : ℕ) {w m : ℕ} → w ≡ costAt p k .loss → (1 ≤ k → m ≡ costAt p k .mark) → statedTest n ev k w m ≡ statedRight k
   unfolding statedTest
   stated-found zero e f = rw e
   stated-found (suc i) e f = rw (e, f (suc-le-suc zero-le))

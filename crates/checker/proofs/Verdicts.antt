@@ -1,5 +1,5 @@
 -- The verdict that the sections imply, section by section. Assumes nothing.
-use mathlib.Core.Path.{_≡_, refl, sym, ap, _∙_}
+use mathlib.Core.Path.{_≡_, sym, ap, _∙_}
 use mathlib.Core.Bool.{Bool, false, _&&_, _||_}
 use mathlib.Core.Logic.{_≢_}
 use mathlib.Core.List.{List}
@@ -43,11 +43,13 @@ module _ (n : ℕ) (ev : List ℕ) (count : ℕ) where
 
   module _ (h : Head) where
     pub implied-begun : Implied h noChoice false 0
-    implied-begun = record { within = omega arith; best-kept = sym (least-none-yet (stated n ev count)); named-kept = sym (any-take-none noCost (names h) (stated n ev count)) }
+    implied-begun =
+        let ws = stated n ev count in
+        record { within = omega arith; best-kept = sym (least-none-yet ws); named-kept = sym (any-take-none noCost (names h) ws) }
 
     -- one section more
-    pub implied-next : {best : Choice} {named : Bool} {i : ℕ} {w : Cost} {best′ : Choice} {called named′ : Bool} → Implied h best named i → i < count → w ≡ sectionIn edition1 n ev i
-        → best′ ≡ bettered best w → called ≡ names h w → named′ ≡ (named || called) → Implied h best′ named′ (i + 1)
+    pub implied-next : {best : Choice} {named : Bool} {i : ℕ} {w : Cost} {best′ : Choice} {called named′ : Bool} → Implied h best named i → i < count
+        → w ≡ sectionIn edition1 n ev i → best′ ≡ bettered best w → called ≡ names h w → named′ ≡ (named || called) → Implied h best′ named′ (i + 1)
     implied-next {i = i} k l e b c m =
         let within : i < length (stated n ev count) = rw stated-length l in
         let here = e ∙ sym (stated-at i l) in

@@ -16,6 +16,7 @@ use Rattle.network.proofs.Blocks.{read-slots, read-block-size, read-blocks}
 use Rattle.evidence.specs.Canonical.{weighings}
 use Rattle.evidence.specs.Checks.{formRight, verdictRight}
 use Rattle.evidence.proofs.Fields.{candidates-few}
+use Rattle.checker.specs.Forests.{partsFault}
 use Rattle.checker.proofs.Forms.{form-tested}
 use Rattle.checker.proofs.Answering.{check-form, check-part, check-verdict, check-none, stated-weighings}
 use borrow.Author.Needs.{needs}
@@ -33,7 +34,8 @@ abbrev evidence : tie.After-form-of → List ℕ
 evidence c = start c .args .ev .now
 
 -- the blocks that were found are the candidates, and the test of the form was made for them
-found : (c : tie.After-form-of) → let r = c .form-of .result in (r .right ≡ formRight edition1 (shown c) (evidence c)) × (r .count ≡ length (candidates (shown c)))
+found : (c : tie.After-form-of) → let r = c .form-of .result in
+    (r .right ≡ formRight edition1 (shown c) (evidence c)) × (r .count ≡ length (candidates (shown c)))
 found c =
     let r = start c .pre in
     let e = marked-candidates (c .before .before .before .slot-rows .ensures) (read-block-size _ _ r) (sym (read-blocks _ _ r)) in
@@ -44,13 +46,16 @@ formed : (c : tie.Else1) → formRight edition1 (shown (c .before)) (evidence (c
 formed c = sym (found (c .before) .0) ∙ not-false _ (c .if1 .left)
 
 -- no part has a fault, so the sections state what the candidates weigh
-judged : (c : tie.After-verdict-right) → let f = c .before .before .before .before in c .verdict-right .result ≡ verdictRight (evidence f) (weighings (shown f))
+clean : (c : tie.Else2) → let f = c .before .before .before in 0 ≡ partsFault (start f .args .s .now) (evidence f)
+clean c = sym (c .if2 .left) ∙ c .before .parts-fault .ensures
+
+judged : (c : tie.After-verdict-right) → let f = c .before .before .before .before in
+    c .verdict-right .result ≡ verdictRight (evidence f) (weighings (shown f))
 judged c =
-    let n = c .before in
-    let f = n .before .before .before in
-    let r = start f .pre in
+    let e = c .before .before .before in
+    let r = start (e .before) .pre in
     c .verdict-right .ensures
-    ∙ ap (verdictRight (evidence f)) (stated-weighings _ _ (r .accepted) (formed (n .before .before)) (sym (n .if2 .left) ∙ n .before .parts-fault .ensures) (read-slots _ _ r) (found f .1))
+    ∙ ap (verdictRight (evidence (e .before))) (stated-weighings _ _ (r .accepted) (formed e) (clean (c .before)) (read-slots _ _ r) (found (e .before) .1))
 
 slot-rows-requires : tie.Need-slot-rows-requires
 slot-rows-requires c κs = search needs
@@ -82,15 +87,13 @@ verdict-right-requires c κs =
 
 returns-3 : tie.Need-returns-3
 returns-3 c =
-    let n = c .before .before in
-    let e = n .before .before in
-    check-none _ _ (start (e .before) .pre .accepted) (formed e) (sym (n .if2 .left) ∙ n .before .parts-fault .ensures) (sym (judged (c .before)) ∙ c .if3 .taken)
+    let e = c .before .before .before .before in
+    check-none _ _ (start (e .before) .pre .accepted) (formed e) (clean (c .before .before)) (sym (judged (c .before)) ∙ c .if3 .taken)
 
 returns-4 : tie.Need-returns-4
 returns-4 c =
-    let n = c .before .before in
-    let e = n .before .before in
-    check-verdict _ _ (start (e .before) .pre .accepted) (formed e) (sym (n .if2 .left) ∙ n .before .parts-fault .ensures) (sym (judged (c .before)) ∙ c .if3 .left)
+    let e = c .before .before .before .before in
+    check-verdict _ _ (start (e .before) .pre .accepted) (formed e) (clean (c .before .before)) (sym (judged (c .before)) ∙ c .if3 .left)
 
 pub evidence-fault-spec : {M : Type 1} → statement M
 evidence-fault-spec =

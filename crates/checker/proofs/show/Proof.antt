@@ -35,7 +35,8 @@ returns c =
     let r = c .before .before .shown-part in
     let a = c .before .before .before .before .before .args in
     let start = ap (λ (x : Part). x .start) (r .ensures) in
-    let size : r .result .start + r .result .size - r .result .start ≡ shownPart (a .s .now) (a .ev .now) .size = omega (arith, ap (λ (x : Part). x .size) (r .ensures)) in
+    let size : r .result .start + r .result .size - r .result .start ≡ shownPart (a .s .now) (a .ev .now) .size =
+    omega (arith, ap (λ (x : Part). x .size) (r .ensures)) in
     (ap₂ (λ (k i : ℕ). take k (drop i (a .ev .now))) size start, ap (λ (k : ℕ). (a .ev .ptr .0, k)) (omega (arith, start)))
 
 pub show-spec : {M : Type 1} → statement M

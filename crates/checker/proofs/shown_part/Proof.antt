@@ -28,7 +28,8 @@ passed : (c : tie.Else1) → let a = start (read c) .args in checkFault (a .s .n
 passed c = sym (c .before .evidence-fault .ensures) ∙ c .if1 .left
 
 -- and the section is that of the block that is named
-named : (c : tie.After-section-named) → let a = start (read (c .before .before .before .before)) .args in c .section-named .result ≡ namedAt (a .s .now) (a .ev .now)
+named : (c : tie.After-section-named) → let a = start (read (c .before .before .before .before)) .args in
+    c .section-named .result ≡ namedAt (a .s .now) (a .ev .now)
 named c =
     let e = c .before .before .before .before in
     c .section-named .ensures ∙ rw (c .before .before .before .head-of .ensures) (named-section _ _ (passed e) (read-slots _ _ (accepted (read e))))

@@ -12,7 +12,8 @@ use Rattle.network.proofs.Making.{clear-made}
 use Rattle.evidence.specs.Checks.{forestIn}
 use Rattle.checker.proofs.Nodes.{node-read}
 use Rattle.checker.proofs.Following.{Followed, followed-begun, followed-in, followed-out, Closed, closed-begun, closed-none, closed-out, closed-apart}
-use Rattle.checker.proofs.Going.{Given, given, Gone, Part, Inside, Sides, sides-whole, sides-less, tables-made, gone-begun, gone-ended, part-begun, part-node, part-link, part-stated, part-gone}
+use Rattle.checker.proofs.Going.{Given, given, Gone, Part, Inside, Sides, sides-whole, sides-less, tables-made, gone-begun, gone-ended}
+use Rattle.checker.proofs.Going.{part-begun, part-node, part-link, part-stated, part-gone}
 use borrow.Author.Needs.{needs}
 use Rattle.checker.proofs.forests.parts_fault.Statement.{statement}
 use Rattle.checker.proofs.forests.parts_fault.Tie as tie
@@ -76,7 +77,8 @@ check-holds c =
     let s = c .before .before in
     let l = s .before .before in
     let p = l .before .before .before .before .pre in
-    record { within = omega arith; none = refl; gone = gone-begun (tables-made (p .0) (p .1) (p .2) (p .3) (l .link-rows .ensures) (s .service-link-rows .ensures) (c .endpoint-rows .ensures)) }
+    let t = tables-made (p .0) (p .1) (p .2) (p .3) (l .link-rows .ensures) (s .service-link-rows .ensures) (c .endpoint-rows .ensures) in
+    record { within = omega arith; none = refl; gone = gone-begun t }
 
 forest-at-requires :
     tie.Need-forest-at-requires Inv-loop μ-loop Inv-loop2 μ-loop2 Inv-check μ-check
@@ -240,7 +242,8 @@ returns c = c .before .check .inv .none ∙ gone-ended (c .before .check .inv .g
 returns-2 : tie.Need-returns-2 Inv-loop μ-loop Inv-loop2 μ-loop2 Inv-check μ-check
 returns-2 c =
     let l = c .before .before .before .before .before in
-    part-node (l .before .loop .inv .part) (l .before .loop .inv .some) (l .loop-test .taken) (sym (c .before .node-right .ensures) ∙ not-true _ (c .if1 .taken))
+    let i = l .before .loop .inv in
+    part-node (i .part) (i .some) (l .loop-test .taken) (sym (c .before .node-right .ensures) ∙ not-true _ (c .if1 .taken))
 
 returns-3 : tie.Need-returns-3 Inv-loop μ-loop Inv-loop2 μ-loop2 Inv-check μ-check
 returns-3 c =

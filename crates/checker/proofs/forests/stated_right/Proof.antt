@@ -30,7 +30,9 @@ returns-2 c = rw (ne-eqb _ _ (c .before .before .before .if1 .left), ← c .befo
 
 returns-3 : tie.Need-returns-3
 unfolding statedTest
-returns-3 c = rw (ne-eqb _ _ (c .before .before .before .before .if1 .left), ← c .before .before .before .section-of .ensures, eq-eqb _ _ (c .before .if2 .left))
+returns-3 c =
+    let s = c .before .before .before in
+    rw (ne-eqb _ _ (s .before .if1 .left), ← s .section-of .ensures, eq-eqb _ _ (c .before .if2 .left))
 
 pub stated-right-spec : {M : Type 1} → statement M
 stated-right-spec =

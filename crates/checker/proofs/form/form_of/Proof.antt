@@ -54,8 +54,8 @@ loop-again c =
       omega (arith, k .before .before .loop-test .taken),
       ⊎-elim
           (λ w.
-          let joined : tie.Joined2 Inv-loop μ-loop = record { before = record { before = record { before = k; if1 = w .0 }; section-right = w .1 }; if2 = w .2 } in
-          rw (w .3, w .4) (forming-hit _ _ _ _ (l .inv .1) (e ∙ w .0 .taken) (right-next joined)))
+          let tested : tie.After-section-right Inv-loop μ-loop = record { before = record { before = k; if1 = w .0 }; section-right = w .1 } in
+          rw (w .3, w .4) (forming-hit _ _ _ _ (l .inv .1) (e ∙ w .0 .taken) (right-next (record { before = tested; if2 = w .2 }))))
           (λ w. rw (w .1, w .2) (forming-miss _ _ _ _ (l .inv .1) (e ∙ w .0 .left)))
           (c .if1 .came),
     )
@@ -64,7 +64,8 @@ head-right-requires : tie.Need-head-right-requires Inv-loop μ-loop
 head-right-requires c κs = search needs
 
 -- every block was looked at
-ended : (c : tie.After-loop Inv-loop μ-loop) → let l = c .before .loop in let a = c .before .before .before .args in Forming (a .n) (a .ev .now) (a .t5) (a .size) (l .right) (l .count) (a .blocks)
+ended : (c : tie.After-loop Inv-loop μ-loop) → let l = c .before .loop in let a = c .before .before .before .args in
+    Forming (a .n) (a .ev .now) (a .t5) (a .size) (l .right) (l .count) (a .blocks)
 ended c =
     let e : c .before .loop .b ≡ c .before .before .before .args .blocks = omega (arith, c .before .loop .inv .0, c .loop-test .left) in
     rw e at (c .before .loop .inv .1)

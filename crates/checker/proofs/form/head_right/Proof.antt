@@ -27,14 +27,16 @@ unfolding headTest evidenceBytes
 returns-3 c =
     let e = c .before .before in
     let l = e .before .before .before in
-    rw (← l .before .section-at .ensures, eq-eqb _ _ (l .if1 .left), ← e .before .before .head-of .ensures, eq-eqb _ _ (e .if2 .left), lt-leb _ _ (c .if3 .taken))
+    let h = e .before .before .head-of in
+    rw (← l .before .section-at .ensures, eq-eqb _ _ (l .if1 .left), ← h .ensures, eq-eqb _ _ (e .if2 .left), lt-leb _ _ (c .if3 .taken))
 
 returns-4 : tie.Need-returns-4
 unfolding headTest evidenceBytes
 returns-4 c =
     let e = c .before .before .before in
     let l = e .before .before .before in
-    rw (← l .before .section-at .ensures, eq-eqb _ _ (l .if1 .left), ← e .before .before .head-of .ensures, eq-eqb _ _ (e .if2 .left), le-leb _ _ (c .before .if3 .left))
+    let h = e .before .before .head-of in
+    rw (← l .before .section-at .ensures, eq-eqb _ _ (l .if1 .left), ← h .ensures, eq-eqb _ _ (e .if2 .left), le-leb _ _ (c .before .if3 .left))
 
 pub head-right-spec : {M : Type 1} → statement M
 head-right-spec =

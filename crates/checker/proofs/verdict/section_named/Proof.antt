@@ -1,5 +1,5 @@
 -- `section_named` looks for the first section of a block. Assumes nothing.
-use mathlib.Core.Path.{_≡_, _∙_}
+use mathlib.Core.Path.{_≡_}
 use mathlib.Core.Bool.{false}
 use Prim.Native.Nat.{ℕ, _-_, _≤_, _<_}
 use native.Mathlib.Omega.{arith}
@@ -30,7 +30,8 @@ returns : tie.Need-returns Inv-loop μ-loop
 unfolding sectionNamed
 returns c =
     let l = c .before .before .before .before .loop in
-    place-found _ (l .i) _ (c .before .before .before .loop-test .taken) (l .inv .1) (rw (← c .before .before .section-of .ensures, eq-eqb _ _ (c .if1 .taken)))
+    place-found _ (l .i) _ (c .before .before .before .loop-test .taken) (l .inv .1)
+    (rw (← c .before .before .section-of .ensures, eq-eqb _ _ (c .if1 .taken)))
 
 add-i : tie.Need-add-i Inv-loop μ-loop
 add-i c = search needs
@@ -41,7 +42,8 @@ loop-less c = search needs
 loop-again : tie.Need-loop-again Inv-loop μ-loop
 loop-again c =
     let l = c .before .before .before .before .loop in
-    (omega (arith, c .before .before .before .loop-test .taken), below-more _ _ (l .inv .1) (rw (← c .before .before .section-of .ensures, ne-eqb _ _ (c .if1 .left))))
+    let s = c .before .before in
+    (omega (arith, s .before .loop-test .taken), below-more _ _ (l .inv .1) (rw (← s .section-of .ensures, ne-eqb _ _ (c .if1 .left))))
 
 returns-2 : tie.Need-returns-2 Inv-loop μ-loop
 unfolding sectionNamed

@@ -42,7 +42,8 @@ named-next c = ⊎-elim (λ w. rw (w .1, w .0 .taken, or-true)) (λ w. rw (w .1,
 loop-again : tie.Need-loop-again Inv-loop μ-loop
 loop-again c =
     let s = c .before .before .before in
-    implied-next _ _ _ _ (s .before .before .loop .inv) (s .before .loop-test .taken) (s .section-of .ensures) (c .before .before .better .ensures) (c .before .is-named .ensures) (named-next c)
+    implied-next _ _ _ _ (s .before .before .loop .inv) (s .before .loop-test .taken) (s .section-of .ensures) (c .before .before .better .ensures)
+    (c .before .is-named .ensures) (named-next c)
 
 -- the sections are gone over, and the verdict is as they imply
 abbrev ended : tie.Else2 Inv-loop μ-loop → tie.After-loop Inv-loop μ-loop
