@@ -28,15 +28,15 @@ enum-known-h c = search needs
 make-plan-requires : tie.Need-make-plan-requires
 make-plan-requires c κs = accepted (c .before)
 
-returns : tie.Need-returns
-returns c =
-    let k = c .before .before in
-    choose-short _ _ (accepted (read k) .accepted) (omega (arith, k .make-plan .ensures .long, c .if1 .taken))
-
 write-evidence-requires : tie.Need-write-evidence-requires
 write-evidence-requires c κs =
     let k = c .before .before .before in
     record { read = accepted (read k); planned = k .make-plan .ensures; room = c .before .if1 .left }
+
+returns : tie.Need-returns
+returns c =
+    let k = c .before .before in
+    choose-short _ _ (accepted (read k) .accepted) (omega (arith, k .make-plan .ensures .long, c .if1 .taken))
 
 returns-2 : tie.Need-returns-2
 returns-2 c = choose-faulty _ _ (refused-fault _ _ (sym (c .before .number .given .1) ∙ c .before .before .before .read .ensures .0))
