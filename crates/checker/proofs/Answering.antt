@@ -96,7 +96,7 @@ module _ (bs ev : List ℕ) where
 
 module _ (bs ev : List ℕ) where
   -- its numbers, and that no refusal is numbered 0
-  checking-numbers : checkingNumbers (checking bs ev) ≡ outcome (checkFault bs ev) []
+  pub checking-numbers : checkingNumbers (checking bs ev) ≡ outcome (checkFault bs ev) []
   unfolding checkingNumbers checking checkingOf outcome
   checking-numbers = go (checkFault bs ev)
     where

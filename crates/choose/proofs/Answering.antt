@@ -32,14 +32,18 @@ module _ (bs buf : List ℕ) where
   Told r out = (r ≡ choosing bs buf) × ((choosingNumbers r ≡ outcome (chooseFault bs buf) (lengthFor bs ∷ [])) × (out ≡ chosenBytes bs buf))
 
   -- the answer has its numbers
-  told : {r : Choosing} {out : List ℕ} → r ≡ choosing bs buf → out ≡ chosenBytes bs buf → Told r out
+  pub choosing-numbers : choosingNumbers (choosing bs buf) ≡ outcome (chooseFault bs buf) (lengthFor bs ∷ [])
   unfolding choosing
-  told e w = (e, (ap choosingNumbers e ∙ told-numbers (chooseFault bs buf) (lengthFor bs), w))
+  choosing-numbers = told-numbers (chooseFault bs buf) (lengthFor bs)
+
+  told : {r : Choosing} {out : List ℕ} → r ≡ choosing bs buf → out ≡ chosenBytes bs buf → Told r out
+  told e w = (e, (ap choosingNumbers e ∙ choosing-numbers, w))
 
   -- a refusal tells its number and leaves the buffer
   refused : {k : ℕ} → k ≢ 0 → k ≡ chooseFault bs buf → Told (Refused k) buf
   unfolding choosing chosenBytes
-  refused {k} n e = told (told-refused k (lengthFor bs) n ∙ ap (λ (j : ℕ). choosingOf j (lengthFor bs)) e) (rw (ne-eqb (chooseFault bs buf) 0 (λ z. n (e ∙ z))))
+  refused {k} n e =
+      told (told-refused k (lengthFor bs) n ∙ ap (λ (j : ℕ). choosingOf j (lengthFor bs)) e) (rw (ne-eqb (chooseFault bs buf) 0 (λ z. n (e ∙ z))))
 
   -- the picture has a fault
   pub choose-faulty : {k : ℕ} → (pictureFault bs ≡ k) × (k ≢ 0) → Told (Refused k) buf
@@ -52,6 +56,7 @@ module _ (bs buf : List ℕ) where
   choose-short z l = refused (λ e. absurd (omega arith)) (rw (z, lt-ltb (length buf) (lengthFor bs) l))
 
   -- nothing is wrong, and the evidence is written
-  pub choose-told : {n : ℕ} {out : List ℕ} → pictureFault bs ≡ 0 → lengthFor bs ≤ length buf → n ≡ lengthFor bs → out ≡ evidenceOf bs ++ drop (lengthFor bs) buf → Told (Length n) out
+  pub choose-told : {n : ℕ} {out : List ℕ} → pictureFault bs ≡ 0 → lengthFor bs ≤ length buf → n ≡ lengthFor bs
+      → out ≡ evidenceOf bs ++ drop (lengthFor bs) buf → Told (Length n) out
   unfolding choosing choosingOf chosenBytes
   choose-told z l e w = let f = choose-takes bs buf z l in told (rw (f, e)) (rw f w)

@@ -9,9 +9,9 @@ use Rattle.packing.specs.Holding.{Put}
 use Rattle.packing.proofs.Putting.{put-behind, put-ahead, put-same}
 use Rattle.picture.specs.declared.Header.{Header}
 use Rattle.picture.specs.Layout.{edition1}
-use Rattle.picture.specs.Picture.{Picture, pictureOf}
+use Rattle.picture.specs.Picture.{pictureOf}
 use Rattle.picture.specs.Inner.{Read}
-use Rattle.network.specs.Words.{slotCount, isHeld}
+use Rattle.network.specs.Words.{isHeld}
 use Rattle.network.specs.Tests.{servedWeight, candidates}
 use Rattle.network.proofs.Blocks.{read-slots}
 use Rattle.evidence.specs.Layout.{headWidths, sectionBytes}
@@ -37,8 +37,9 @@ module _ {bs : List ℕ} {h : Header} (r : Read bs h) where
   evidence-room l = record { fits = omega (arith, length-for); low = omega (arith, length-for, length-most bs (r .accepted)) }
 
   -- the values of the head
-  module _ {best : Choice} {count served : ℕ} (e : best ≡ least (weighings (pictureOf bs))) (f : count ≡ length (candidates (pictureOf bs))) (g : served ≡ servedWeight (pictureOf bs)) where
-    pub head-same : headFields edition1 best count served ≡ head-of edition1 (pictureOf bs)
+  module _ {best : Choice} {count served : ℕ} (e : best ≡ least (weighings (pictureOf bs))) (f : count ≡ length (candidates (pictureOf bs)))
+      (g : served ≡ servedWeight (pictureOf bs)) where
+    head-same : headFields edition1 best count served ≡ head-of edition1 (pictureOf bs)
     head-same = rw (e, f, g, weighings-length)
 
     pub head-fits : {buf : List ℕ} → lengthFor bs ≤ length buf → HeadFits best count served buf
@@ -54,11 +55,14 @@ module _ {bs : List ℕ} {h : Header} (r : Read bs h) where
           loss = c .2;
         })
 
-module _ {bs : List ℕ} {h : Header} {linkTable serviceTable : List (List ℕ)} {weights guarded reached : List ℕ} (r : WeighRows bs h linkTable serviceTable weights guarded reached) where
+module _ {bs : List ℕ} {h : Header} {links services : List (List ℕ)} {weights guarded reached : List ℕ}
+    (r : WeighRows bs h links services weights guarded reached) where
   -- the head was written last, before the rest
-  pub evidence-written : {buf a b out : List ℕ} {best : Choice} {count served : ℕ} → Put buf (sum headWidths) (forestFields edition1 (nodesIn (r .parents) (r .depths) (h .slots))) a
-      → Sectioned (pictureOf bs) (sectionsStart (h .slots)) a b best → Put b 0 (headFields edition1 best count served) out → count ≡ length (candidates (pictureOf bs)) → served ≡ servedWeight (pictureOf bs)
-      → lengthFor bs ≤ length buf → ((j : ℕ) → getD buf j 0 < 256) → ((j : ℕ) → getD out j 0 < 256) → out ≡ evidenceOf bs ++ drop (lengthFor bs) buf
+  pub evidence-written : {buf a b out : List ℕ} {best : Choice} {count served : ℕ}
+      → Put buf (sum headWidths) (forestFields edition1 (nodesIn (r .parents) (r .depths) (h .slots))) a
+      → Sectioned (pictureOf bs) (sectionsStart (h .slots)) a b best → Put b 0 (headFields edition1 best count served) out
+      → count ≡ length (candidates (pictureOf bs)) → served ≡ servedWeight (pictureOf bs) → lengthFor bs ≤ length buf
+      → ((j : ℕ) → getD buf j 0 < 256) → ((j : ℕ) → getD out j 0 < 256) → out ≡ evidenceOf bs ++ drop (lengthFor bs) buf
   unfolding evidenceFields
   evidence-written {buf} {out = out} f s d e g room old new =
       let p = pictureOf bs in

@@ -68,12 +68,14 @@ module _ (p : Picture) {n : ℕ} (z : slotCount p ≡ n) where
   unfolding weighedBelow filter range flat least bettering
   sections-begun at buf = record { behind = omega arith; put = put-none buf (at * 8); choice = refl }
 
-  pub sections-hit : {at b q size : ℕ} {ws : List Cost} {buf mid buf′ : List ℕ} {best best′ : Choice} {w : Cost} → SectionsDone p n at ws buf mid q best → SectionDone p b q mid buf′ w → best′ ≡ bettered best w
-      → size ≡ sectionBytes edition1 n → SectionsDone p n at (ws ++ (weighed p b ∷ [])) buf buf′ (q + size) best′
+  pub sections-hit : {at b q size : ℕ} {ws : List Cost} {buf mid buf′ : List ℕ} {best best′ : Choice} {w : Cost} → SectionsDone p n at ws buf mid q best
+      → SectionDone p b q mid buf′ w → best′ ≡ bettered best w → size ≡ sectionBytes edition1 n
+      → SectionsDone p n at (ws ++ (weighed p b ∷ [])) buf buf′ (q + size) best′
   sections-hit {at} {b} {q} {size} {ws} s d f k =
+      let bits = rw z at (sections-span edition1 p ws) in
       record {
         behind = rw (length-append, add-one) (omega (arith, s .behind, suc-mul (length ws) (sectionBytes edition1 n)));
-        put = rw flat-map-more (put-behind (at * 8) _ _ (s .put) (put-same (d .put) (omega (arith, s .behind, rw z at (sections-span edition1 p ws), sections-whole n (length ws))) refl));
+        put = rw flat-map-more (put-behind (at * 8) _ _ (s .put) (put-same (d .put) (omega (arith, s .behind, bits, sections-whole n (length ws))) refl));
         choice = f ∙ ap₂ bettered (s .choice) (d .cost) ∙ sym (least-last ws (weighed p b));
       }
 
@@ -81,7 +83,8 @@ module _ (p : Picture) {n : ℕ} (z : slotCount p ≡ n) where
   sections-ended s = record { put = s .put; choice = s .choice }
 
   -- where more candidates are to come, the next has room
-  pub room-more : {at q : ℕ} {ws : List Cost} {buf buf′ : List ℕ} {best : Choice} → SectionsDone p n at ws buf buf′ q best → length ws < length (candidates p) → Room n at (length (candidates p)) buf → Room n q 1 buf′
+  pub room-more : {at q : ℕ} {ws : List Cost} {buf buf′ : List ℕ} {best : Choice} → SectionsDone p n at ws buf buf′ q best
+      → length ws < length (candidates p) → Room n at (length (candidates p)) buf → Room n q 1 buf′
   room-more {ws = ws} s l o =
       let x = sectionBytes edition1 n in
       let m : suc (length ws) * x ≤ length (candidates p) * x = mul-le-mul-right x l in

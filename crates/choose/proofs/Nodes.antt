@@ -1,5 +1,5 @@
 -- The nodes of a forest written from arrays, slot by slot, and the arrays of a walk. Assumes nothing.
-use mathlib.Core.Path.{_≡_, refl, sym, ap, _∙_}
+use mathlib.Core.Path.{_≡_, refl, _∙_}
 use mathlib.Core.Bool.{Bool}
 use mathlib.Core.List.{List, [], _∷_, _++_}
 use Prim.Native.Nat.{ℕ, zero, suc, _+_, _*_, _≤_, _<_}
@@ -53,30 +53,37 @@ module _ (ps ds : List ℕ) where
       → Put buf (k * 8) (nodeFields edition1 x) (set (set buf k (x .parent)) (k + 1) (x .depth))
   unfolding nodeFields fieldsOf nodeWidths span
   node-put buf k x room a b =
-      put-behind (k * 8) (record { width = 8; value = x .parent } ∷ []) (record { width = 8; value = x .depth } ∷ []) (put-one-byte buf k (x .parent) (omega arith) a)
-      (put-same (put-one-byte (set buf k (x .parent)) (k + 1) (x .depth) (simp length-set room) b) (omega arith) refl)
+      let depth = put-one-byte (set buf k (x .parent)) (k + 1) (x .depth) (simp length-set room) b in
+      put-behind (k * 8) (record { width = 8; value = x .parent } ∷ []) (record { width = 8; value = x .depth } ∷ [])
+      (put-one-byte buf k (x .parent) (omega arith) a) (put-same depth (omega arith) refl)
 
   -- one slot more
   pub nodes-next : {buf buf′ : List ℕ} (at v : ℕ) → Put buf (at * 8) (forestFields edition1 (nodesIn ps ds v)) buf′ → at + v * 2 + 1 < length buf′
       → getD ps (v + 1) 0 < 256 → getD ds (v + 1) 0 < 256
-      → Put buf (at * 8) (forestFields edition1 (nodesIn ps ds (v + 1))) (set (set buf′ (at + v * 2) (getD ps (v + 1) 0)) (at + v * 2 + 1) (getD ds (v + 1) 0))
+      → Put buf (at * 8) (forestFields edition1 (nodesIn ps ds (v + 1)))
+      (set (set buf′ (at + v * 2) (getD ps (v + 1) 0)) (at + v * 2 + 1) (getD ds (v + 1) 0))
   nodes-next {buf} {buf′} at v p room a b =
-      let fs = forestFields edition1 (nodesIn ps ds v) in
+      let bits = rw (length-nodes v) at (nodes-span edition1 (nodesIn ps ds v)) in
       rw (nodes-more v)
-      (put-behind (at * 8) fs (nodeFields edition1 (node (v + 1))) p
-      (put-same (node-put buf′ (at + v * 2) (node (v + 1)) room a b) (omega (arith, rw (length-nodes v) at (nodes-span edition1 (nodesIn ps ds v)), forest-whole v)) refl))
+      (put-behind (at * 8) (forestFields edition1 (nodesIn ps ds v)) (nodeFields edition1 (node (v + 1))) p
+      (put-same (node-put buf′ (at + v * 2) (node (v + 1)) room a b) (omega (arith, bits, forest-whole v)) refl))
 
   -- ---- the arrays of a walk over a picture
 
   -- they are the forest
-  pub walked-nodes : {bs : List ℕ} {h : Header} {held reaches : ℕ → Bool} → Read bs h → Walked (joins (pictureOf bs .links)) held reaches ps ds → nodesIn ps ds (h .slots) ≡ forestOf (pictureOf bs) held
+  pub walked-nodes : {bs : List ℕ} {h : Header} {held reaches : ℕ → Bool} → Read bs h → Walked (joins (pictureOf bs .links)) held reaches ps ds
+      → nodesIn ps ds (h .slots) ≡ forestOf (pictureOf bs) held
   unfolding forestOf nodesIn nodeOf item
   walked-nodes {bs} {h} {held} r w =
-      rw (← read-slots bs h r) (entries-same (joins (pictureOf bs .links)) held n (accepted-named bs (r .accepted) .links) (nodesIn ps ds n) (length-nodes n) entry)
+      let named = accepted-named bs (r .accepted) .links in
+      rw (← read-slots bs h r) (entries-same linked held n named (nodesIn ps ds n) (length-nodes n) entry)
     where
       n : ℕ
       n = slotCount (pictureOf bs)
 
-      entry : (v : ℕ) → 1 ≤ v → v ≤ n → Entry (joins (pictureOf bs .links)) held v (nodeOf (nodesIn ps ds n) v .parent) (nodeOf (nodesIn ps ds n) v .depth)
+      linked : ℕ → ℕ → Bool
+      linked = joins (pictureOf bs .links)
+
+      entry : (v : ℕ) → 1 ≤ v → v ≤ n → Entry linked held v (nodeOf (nodesIn ps ds n) v .parent) (nodeOf (nodesIn ps ds n) v .depth)
       entry zero l m = absurd (omega arith)
       entry (suc i) l m = rw (getD-map-range node _ 1 n i m, one-add) (w .entry (suc i) l)

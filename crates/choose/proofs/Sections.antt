@@ -1,5 +1,5 @@
 -- The section of a candidate: what the rows of a picture give is what the specification says. Assumes nothing.
-use mathlib.Core.Path.{_≡_, refl, sym}
+use mathlib.Core.Path.{_≡_, sym}
 use mathlib.Core.List.{List}
 use Prim.Native.Nat.{ℕ, _*_, _<_}
 use native.Mathlib.Omega.{arith}
@@ -35,13 +35,14 @@ read-left {bs} {h} {b} {row = row} r s k m =
     let own : BlockRow (pictureOf bs .blockSize) b row = rw (read-block-size bs h r) k in
     record { slots = left-slots _ _ _ _ _ _ s own m; held = left-held _ _ _ _ _ _ s own m }
 
-module _ {bs : List ℕ} {h : Header} {linkTable serviceTable : List (List ℕ)} {weights guarded reached : List ℕ} (r : WeighRows bs h linkTable serviceTable weights guarded reached) where
+module _ {bs : List ℕ} {h : Header} {links services : List (List ℕ)} {weights guarded reached : List ℕ}
+    (r : WeighRows bs h links services weights guarded reached) where
   abbrev p : Picture
   p = pictureOf bs
 
   -- the section of a block has room, and its values fit
-  pub section-fits : {b at : ℕ} {w : Cost} {ps ds buf : List ℕ} → w ≡ weighed (pictureOf bs) b → b < blockCount (pictureOf bs) → Room (h .slots) at 1 buf → length ps ≡ locationsMax → length ds ≡ locationsMax
-      → SectionFits at (h .slots) w ps ds buf
+  pub section-fits : {b at : ℕ} {w : Cost} {ps ds buf : List ℕ} → w ≡ weighed (pictureOf bs) b → b < blockCount (pictureOf bs) → Room (h .slots) at 1 buf
+      → length ps ≡ locationsMax → length ds ≡ locationsMax → SectionFits at (h .slots) w ps ds buf
   section-fits {b} e k o x y =
       let ok = r .read .accepted in
       let slots = read-limited bs h (r .read) .slots in
@@ -57,13 +58,13 @@ module _ {bs : List ℕ} {h : Header} {linkTable serviceTable : List (List ℕ)}
       })
 
   -- with the walk over what is left, and the sums of what is lost
-  module _ {b loss mark : ℕ} {left still ps ds : List ℕ} (l : Left (pictureOf bs) b left) (w : Walked (linkedIn linkTable) (heldIn left) (marked still) ps ds)
-      (s : LostBetween serviceTable weights guarded (h .endpoints) reached still loss mark) where
+  module _ {b loss mark : ℕ} {left still ps ds : List ℕ} (l : Left (pictureOf bs) b left) (w : Walked (linkedIn links) (heldIn left) (marked still) ps ds)
+      (s : LostBetween services weights guarded (h .endpoints) reached still loss mark) where
     abbrev cost : Cost
     cost = record { block = b; loss = loss; mark = mark }
 
     left-walked : Walked (joins (p .links)) (heldWithout p b) (marked still) ps ds
-    left-walked = walked-over p _ linkTable left _ ps ds (r .links) (l .held) w
+    left-walked = walked-over p _ links left _ ps ds (r .links) (l .held) w
 
     pub lost-cost : cost ≡ weighed (pictureOf bs) b
     lost-cost =
@@ -77,5 +78,6 @@ module _ {bs : List ℕ} {h : Header} {linkTable serviceTable : List (List ℕ)}
     unfolding arraySection sectionFields
     section-same = rw (← lost-cost, walked-nodes ps ds (r .read) left-walked)
 
-    pub section-done : {at : ℕ} {buf buf′ : List ℕ} → Put buf (at * 8) (arraySection cost ps ds (h .slots)) buf′ → SectionDone (pictureOf bs) b at buf buf′ cost
+    pub section-done : {at : ℕ} {buf buf′ : List ℕ} → Put buf (at * 8) (arraySection cost ps ds (h .slots)) buf′
+        → SectionDone (pictureOf bs) b at buf buf′ cost
     section-done put = record { put = rw section-same at put; cost = lost-cost }

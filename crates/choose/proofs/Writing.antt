@@ -1,5 +1,5 @@
 -- Fields written one after the other. Assumes nothing.
-use mathlib.Core.Path.{_≡_, refl, sym, ap, _∙_}
+use mathlib.Core.Path.{_≡_, refl, ap, _∙_}
 use mathlib.Core.List.{List, [], _∷_}
 use Prim.Native.Nat.{ℕ, _+_, _*_, _^_, _≤_, _<_}
 use native.Mathlib.Omega.{arith}
@@ -18,10 +18,10 @@ pub puts-none : {bs : List ℕ} {q : ℕ} → Puts bs q [] bs
 puts-none room = put-none _ _
 
 -- a field, and then the rest behind it
-pub puts-next : {old mid new : List ℕ} {p q w v : ℕ} {fs : List Field} → mid ≡ putField old p w v → p ≡ q → v < 2 ^ w → Puts mid (q + w) fs new
+pub puts-next : {old mid new : List ℕ} {p q w v : ℕ} {fs : List Field} → v < 2 ^ w → mid ≡ putField old p w v → p ≡ q → Puts mid (q + w) fs new
     → Puts old q (record { width = w; value = v } ∷ fs) new
 unfolding span
-puts-next {old} {mid} {new} {p} {q} {w} {v} {fs} e s small rest room =
+puts-next {old} {mid} {new} {p} {q} {w} {v} {fs} small e s rest room =
     let f : Field = record { width = w; value = v } in
     let made : mid ≡ putField old q w v = e ∙ ap (λ (k : ℕ). putField old k w v) s in
     let long : length mid ≡ length old = ap length made ∙ length-putField old q w v in

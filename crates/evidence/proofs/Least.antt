@@ -1,5 +1,5 @@
 -- What is chosen of a list of costs: the first of the least among those without a mark, or none where each has a mark. Assumes nothing.
-use mathlib.Core.Path.{_≡_, refl, sym, _∙_, subst}
+use mathlib.Core.Path.{_≡_, refl, sym, subst}
 use mathlib.Core.Bool.{Bool, true, false, _&&_, _||_, cond}
 use mathlib.Core.Logic.{_⊎_, inl, inr, _≢_, ⊎-elim}
 use mathlib.Core.List.{List, [], _∷_, _++_}

@@ -11,7 +11,7 @@ use Rattle.picture.specs.Layout.{edition1, fieldIn}
 use Rattle.evidence.specs.Layout.{headWidths, nodeWidths, sectionWidths, forestBits, sectionBits, sectionBytes, sectionAt, forestAt}
 use Rattle.evidence.specs.Checks.{sectionIn}
 
--- the numbers of edition 1, which the laws of this crate alone use
+-- the numbers of edition 1, as the code has them
 pub section-bits : (n : ℕ) → sectionBits edition1 n ≡ 40 + n * 16
 unfolding sectionBits sectionWidths forestBits nodeWidths sum
 section-bits n = refl

@@ -54,9 +54,9 @@ loop-again c =
     let b = l .loop .b in (
       omega arith,
       ⊎-elim
-      (λ w. omega (arith, w .1, l .loop .inv .1, count-hit f 0 b (sym (here (c .before)) ∙ w .0 .taken)))
-      (λ w. omega (arith, w .1, l .loop .inv .1, count-miss f 0 b (sym (here (c .before)) ∙ w .0 .left)))
-      (c .if1 .came),
+          (λ w. omega (arith, w .1, l .loop .inv .1, count-hit f 0 b (sym (here (c .before)) ∙ w .0 .taken)))
+          (λ w. omega (arith, w .1, l .loop .inv .1, count-miss f 0 b (sym (here (c .before)) ∙ w .0 .left)))
+          (c .if1 .came),
     )
 
 returns : tie.Need-returns Inv-loop μ-loop

@@ -1,7 +1,6 @@
 -- `put_forest` writes the nodes, slot by slot. Assumes nothing.
 use mathlib.Core.Path.{_≡_}
-use mathlib.Core.List.{List}
-use Prim.Native.Nat.{ℕ, _+_, _-_, _*_, _≤_, _<_}
+use Prim.Native.Nat.{_+_, _-_, _*_, _≤_, _<_}
 use native.Mathlib.Omega.{arith}
 use lib.ListN.{length, length-set}
 use Rattle.packing.specs.Holding.{Put}
@@ -13,22 +12,18 @@ use borrow.Author.Needs.{needs}
 use Rattle.choose.proofs.put_forest.Statement.{statement}
 use Rattle.choose.proofs.put_forest.Tie as tie
 
-record Loop (buf₀ : List ℕ) (at n : ℕ) (parent depth buf : List ℕ) (v : ℕ) : Type 0 where
-  pub within : v ≤ n
-  pub put : Put buf₀ (at * 8) (forestFields edition1 (nodesIn parent depth v)) buf
-
 abbrev Inv-loop : tie.InvT-loop
-Inv-loop buf₀ at n parent depth v₀ buf v = Loop buf₀ at n parent depth buf v
+Inv-loop buf₀ at n parent depth v₀ buf v = (v ≤ n) × Put buf₀ (at * 8) (forestFields edition1 (nodesIn parent depth v)) buf
 
 abbrev μ-loop : tie.MeasureT-loop
 μ-loop buf₀ at n parent depth v₀ buf v = n - v
 
 -- a node more has its place
 room : (c : tie.At-loop Inv-loop μ-loop) → c .loop .v < c .before .args .n → c .before .args .at + c .loop .v * 2 + 1 < length (c .loop .buf)
-room c l = omega (arith, c .loop .inv .put .long)
+room c l = omega (arith, c .loop .inv .1 .long)
 
 loop-holds : tie.Need-loop-holds Inv-loop μ-loop
-loop-holds c = record { within = omega arith; put = nodes-begun _ _ _ _ }
+loop-holds c = (omega arith, nodes-begun _ _ _ _)
 
 mul-q : tie.Need-mul-q Inv-loop μ-loop
 mul-q c = search needs
@@ -63,18 +58,15 @@ loop-again c =
     let next = l .loop .v + 1 in
     let parents = c .before .shared-slice-known .given next in
     let depths = c .shared-slice-known2 .given next in
-    record {
-      within = omega arith;
-      put = nodes-next _ _ (l .before .args .at) (l .loop .v) (l .loop .inv .put) (room l (omega arith)) (omega (arith, parents)) (omega (arith, depths));
-    }
+    (omega arith, nodes-next _ _ (l .before .args .at) (l .loop .v) (l .loop .inv .1) (room l (omega arith)) (omega (arith, parents)) (omega (arith, depths)))
 
 same-length : tie.Need-same-length Inv-loop μ-loop
-same-length c = c .before .loop .inv .put .long
+same-length c = c .before .loop .inv .1 .long
 
 returns : tie.Need-returns Inv-loop μ-loop
 returns c =
-    let e : c .before .loop .v ≡ c .before .before .args .n = omega (arith, c .before .loop .inv .within) in
-    rw (← e) (c .before .loop .inv .put)
+    let e : c .before .loop .v ≡ c .before .before .args .n = omega (arith, c .before .loop .inv .0) in
+    rw (← e) (c .before .loop .inv .1)
 
 pub put-forest-spec : {M : Type 1} → statement M
 put-forest-spec =

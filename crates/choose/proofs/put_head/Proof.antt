@@ -42,12 +42,12 @@ returns c =
     let b = k .before .before .before .before in
     let a = b .before .before .before .before in
     let p = a .before .before .before .pre in
-    puts-next (a .put-field .ensures) refl (omega arith)
-    (puts-next (b .put-field2 .ensures) refl (p .verdict)
-    (puts-next (k .put-field3 .ensures) refl (p .block)
-    (puts-next (d .put-field4 .ensures) refl (p .few)
-    (puts-next (e .put-field5 .ensures) refl (p .weight)
-    (puts-next (f .put-field6 .ensures) refl (p .loss) puts-none))))) (p .room)
+    puts-next (omega arith) (a .put-field .ensures) refl
+    (puts-next (p .verdict) (b .put-field2 .ensures) refl
+    (puts-next (p .block) (k .put-field3 .ensures) refl
+    (puts-next (p .few) (d .put-field4 .ensures) refl
+    (puts-next (p .weight) (e .put-field5 .ensures) refl
+    (puts-next (p .loss) (f .put-field6 .ensures) refl puts-none))))) (p .room)
 
 pub put-head-spec : {M : Type 1} → statement M
 put-head-spec =

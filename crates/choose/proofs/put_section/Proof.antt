@@ -53,9 +53,9 @@ returns c =
     let a = b .before .before .before .before in
     let p = a .before .before .before .before .before .pre in
     put-behind _ _ _
-    (puts-next (a .put-field .ensures) refl (p .block)
-    (puts-next (b .put-field2 .ensures) refl (p .loss)
-    (puts-next (k .put-field3 .ensures) (omega arith) (p .mark) puts-none)) (omega (arith, section-bytes (n (a .before)))))
+    (puts-next (p .block) (a .put-field .ensures) refl
+    (puts-next (p .loss) (b .put-field2 .ensures) refl
+    (puts-next (p .mark) (k .put-field3 .ensures) (omega arith) puts-none)) (omega (arith, section-bytes (n (a .before)))))
     (put-same (d .put-forest .ensures) (omega arith) refl)
 
 pub put-section-spec : {M : Type 1} → statement M

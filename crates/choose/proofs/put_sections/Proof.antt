@@ -17,12 +17,14 @@ use Rattle.evidence.specs.declared.Choice.{Choice}
 use Rattle.evidence.proofs.Fields.{blocks-small}
 use Rattle.choose.specs.Sections.{WeighRows, Room}
 use Rattle.choose.proofs.Sections.{read-left}
-use Rattle.choose.proofs.Gathering.{weighedBelow, below-hit, below-miss, below-all, below-fewer, SectionsDone, sections-begun, sections-hit, sections-ended, room-more}
+use Rattle.choose.proofs.Gathering.{weighedBelow, below-hit, below-miss, below-all, below-fewer}
+use Rattle.choose.proofs.Gathering.{SectionsDone, sections-begun, sections-hit, sections-ended, room-more}
 use borrow.Author.Needs.{needs}
 use Rattle.choose.proofs.put_sections.Statement.{statement}
 use Rattle.choose.proofs.put_sections.Tie as tie
 
-record Loop (h : Header) (links services : List (List ℕ)) (weights protected reached held near : List ℕ) (at blocks : ℕ) (buf₀ buf : List ℕ) (best : Choice) (q b : ℕ) : Type 0 where
+record Loop (h : Header) (links services : List (List ℕ)) (weights protected reached held near : List ℕ) (at blocks : ℕ) (buf₀ buf : List ℕ)
+    (best : Choice) (q b : ℕ) : Type 0 where
   pub within : b ≤ blocks
   pub done : (bs : List ℕ) → WeighRows bs h links services weights protected reached → SlotRowsOf (pictureOf bs) held near
       → SectionsDone (pictureOf bs) (h .slots) at (weighedBelow (pictureOf bs) b) buf₀ buf q best

@@ -51,8 +51,9 @@ fits : (c : tie.After-walk) → lengthFor (bytes c) ≤ length (start c .args .b
 fits c = let p = start c .pre in omega (arith, p .planned .long, p .room)
 
 -- the rows of the picture
-abbrev rows : (c : tie.After-walk) → let ends = c .before .endpoint-rows in
-    WeighRows (bytes c) (start c .args .h) (linked c .link-rows .last .1 .1 .0) (c .before .before .before .service-link-rows .last .1 .1 .0) (ends .last .1 .1 .0) (ends .result) (c .walk .result .reached)
+abbrev rows : (c : tie.After-walk) → let links = linked c .link-rows in let services = c .before .before .before .service-link-rows in
+    let ends = c .before .endpoint-rows in
+    WeighRows (bytes c) (start c .args .h) (links .last .1 .1 .0) (services .last .1 .1 .0) (ends .last .1 .1 .0) (ends .result) (c .walk .result .reached)
 rows c =
     let links = linked c .link-rows .ensures in
     let p = start c .pre in
@@ -71,11 +72,12 @@ served : (c : tie.After-lost-between) → c .lost-between .result .weight ≡ se
 served c =
     let r = rows (walked c) in
     let named = accepted-named _ (r .read .accepted) in
-    served-value _ _ _ _ _ named (r .services) (r .ends) (read-endpoints _ _ (r .read)) _ _ _ (r .now) _ _ _ (clear rowWords) (c .lost-between .ensures)
+    let count = read-endpoints _ _ (r .read) in
+    served-value _ _ _ _ _ named (r .services) (r .ends) count _ _ _ (r .now) _ _ _ (clear rowWords) (c .lost-between .ensures)
 
 -- the sections behind the first forest
-sectioned : (c : tie.After-put-sections) → let w = walked (lost (planted c)) in
-    Sectioned (pictureOf (bytes w)) (sectionsStart (start w .args .h .slots)) (planted c .put-forest .last .0) (c .put-sections .last .0) (c .put-sections .result)
+sectioned : (c : tie.After-put-sections) → let w = walked (lost (planted c)) in let s = c .put-sections in
+    Sectioned (pictureOf (bytes w)) (sectionsStart (start w .args .h .slots)) (planted c .put-forest .last .0) (s .last .0) (s .result)
 sectioned c = let w = walked (lost (planted c)) in c .put-sections .ensures _ (rows w) (start w .pre .planned .slots)
 
 -- ---- the answers
