@@ -64,16 +64,20 @@ least-more ws i h = rw (add-one, take-suc ws i noCost h) (least-last (take i ws)
 
 -- ---- all costs of a list, after an earlier choice
 
--- r is the first of the least without a mark, and loses less than what was chosen before
-record Taken (c : Choice) (ws : List Cost) (r : Choice) : Type 0 where
-  pub verdict : r .verdict ≡ 1
+-- c names the first of the least costs without a mark
+pub record Chosen (ws : List Cost) (c : Choice) : Type 0 where
+  pub verdict : c .verdict ≡ 1
   pub at : ℕ
   pub within : at < length ws
   pub clear : getD ws at noCost .mark ≡ 0
-  pub block : r .block ≡ getD ws at noCost .block
-  pub loss : r .loss ≡ getD ws at noCost .loss
-  pub least : (j : ℕ) → j < length ws → getD ws j noCost .mark ≡ 0 → r .loss ≤ getD ws j noCost .loss
-  pub first : (j : ℕ) → j < at → getD ws j noCost .mark ≡ 0 → r .loss < getD ws j noCost .loss
+  pub block : c .block ≡ getD ws at noCost .block
+  pub loss : c .loss ≡ getD ws at noCost .loss
+  pub least : (j : ℕ) → j < length ws → getD ws j noCost .mark ≡ 0 → c .loss ≤ getD ws j noCost .loss
+  pub first : (j : ℕ) → j < at → getD ws j noCost .mark ≡ 0 → c .loss < getD ws j noCost .loss
+
+-- r is such a choice, and loses less than what was chosen before
+record Taken (c : Choice) (ws : List Cost) (r : Choice) : Type 0 where
+  pub chosen : Chosen ws r
   pub below : c .verdict ≢ 0 → r .loss < c .loss
 
 -- what was chosen before stays: each cost has a mark or loses no less
@@ -86,7 +90,11 @@ module _ (c : Choice) (w : Cost) (ws : List Cost) (r : Choice) where
   first-taken : w .mark ≡ 0 → (c .verdict ≢ 0 → w .loss < c .loss) → Stays (taken w) ws r → Taken c (w ∷ ws) r
   first-taken m b k =
       rw (k .same)
-      (record { verdict = refl; at = 0; within = suc-le-suc zero-le; clear = m; block = refl; loss = refl; least = low; first = λ j h. absurd (not-suc-le-zero h); below = b })
+      (record {
+        chosen =
+            record { verdict = refl; at = 0; within = suc-le-suc zero-le; clear = m; block = refl; loss = refl; least = low; first = λ j h. absurd (not-suc-le-zero h) };
+        below = b;
+      })
     where
       low : (j : ℕ) → j < suc (length ws) → getD (w ∷ ws) j noCost .mark ≡ 0 → w .loss ≤ getD (w ∷ ws) j noCost .loss
       low zero h e = omega arith
@@ -96,27 +104,24 @@ module _ (c : Choice) (w : Cost) (ws : List Cost) (r : Choice) where
   later-taken : (c′ : Choice) → (w .mark ≡ 0 → (c′ .verdict ≢ 0) × (c′ .loss ≤ w .loss)) → (c .verdict ≢ 0 → (c′ .verdict ≢ 0) × (c′ .loss ≤ c .loss)) → Taken c′ ws r → Taken c (w ∷ ws) r
   later-taken c′ a b k =
       record {
-        verdict = k .verdict;
-        at = suc (k .at);
-        within = suc-le-suc (k .within);
-        clear = k .clear;
-        block = k .block;
-        loss = k .loss;
-        least = low;
-        first = early;
+        chosen =
+            record { verdict = x .verdict; at = suc (x .at); within = suc-le-suc (x .within); clear = x .clear; block = x .block; loss = x .loss; least = low; first = early };
         below = λ v. let s = b v in omega (arith, k .below (s .0), s .1);
       }
     where
+      x : Chosen ws r
+      x = k .chosen
+
       under : w .mark ≡ 0 → r .loss < w .loss
       under m = let s = a m in omega (arith, k .below (s .0), s .1)
 
       low : (j : ℕ) → j < suc (length ws) → getD (w ∷ ws) j noCost .mark ≡ 0 → r .loss ≤ getD (w ∷ ws) j noCost .loss
       low zero h e = omega (arith, under e)
-      low (suc j) h e = k .least j (le-of-suc-le-suc h) e
+      low (suc j) h e = k .chosen .least j (le-of-suc-le-suc h) e
 
-      early : (j : ℕ) → j < suc (k .at) → getD (w ∷ ws) j noCost .mark ≡ 0 → r .loss < getD (w ∷ ws) j noCost .loss
+      early : (j : ℕ) → j < suc (k .chosen .at) → getD (w ∷ ws) j noCost .mark ≡ 0 → r .loss < getD (w ∷ ws) j noCost .loss
       early zero h e = under e
-      early (suc j) h e = k .first j (le-of-suc-le-suc h) e
+      early (suc j) h e = k .chosen .first j (le-of-suc-le-suc h) e
 
   none-taken : (w .mark ≡ 0 → (c .verdict ≢ 0) × (c .loss ≤ w .loss)) → Stays c ws r → Stays c (w ∷ ws) r
   none-taken a k = record { same = k .same; over = all }
@@ -138,17 +143,6 @@ bettering-is c (w ∷ ws) = one-more c w ws _ (bettered-is c w) (bettering-is (b
 
 -- ---- the least of a list
 
--- c names the first of the least costs without a mark
-pub record Chosen (ws : List Cost) (c : Choice) : Type 0 where
-  pub verdict : c .verdict ≡ 1
-  pub at : ℕ
-  pub within : at < length ws
-  pub clear : getD ws at noCost .mark ≡ 0
-  pub block : c .block ≡ getD ws at noCost .block
-  pub loss : c .loss ≡ getD ws at noCost .loss
-  pub least : (j : ℕ) → j < length ws → getD ws j noCost .mark ≡ 0 → c .loss ≤ getD ws j noCost .loss
-  pub first : (j : ℕ) → j < at → getD ws j noCost .mark ≡ 0 → c .loss < getD ws j noCost .loss
-
 -- c names nothing, and every cost has a mark
 pub record Nothing (ws : List Cost) (c : Choice) : Type 0 where
   pub verdict : c .verdict ≡ 0
@@ -160,7 +154,7 @@ pub least-right : (ws : List Cost) → Chosen ws (least ws) ⊎ Nothing ws (leas
 unfolding least
 least-right ws =
     ⊎-elim
-    (λ t. inl (record { verdict = t .verdict; at = t .at; within = t .within; clear = t .clear; block = t .block; loss = t .loss; least = t .least; first = t .first }))
+    (λ t. inl (t .chosen))
     (λ s. inr (rw (s .same) (record { verdict = refl; block = refl; loss = refl; marked = λ j h e. s .over j h e .0 refl })))
     (bettering-is noChoice ws)
 
