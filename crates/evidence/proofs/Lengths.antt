@@ -32,6 +32,12 @@ pub evidence-bytes : (n c : ℕ) → evidenceBytes edition1 n c ≡ sectionsStar
 unfolding evidenceBytes
 evidence-bytes n c = omega (arith, sections-end n c)
 
+-- "The length is 9 + 2n + C(5 + 2n)"
+pub evidence-length : (n c : ℕ) → evidenceBytes edition1 n c ≡ 9 + 2 * n + c * (5 + 2 * n)
+evidence-length n c =
+    let e : sectionBytes edition1 n ≡ 5 + 2 * n = omega (arith, section-bytes n) in
+    omega (arith, evidence-bytes n c, ap (λ (x : ℕ). c * x) e)
+
 -- "at most 29589 bytes": at most 60 candidates and 240 slots
 pub length-most : (bs : List ℕ) → pictureFault bs ≡ 0 → lengthFor bs ≤ evidenceMax
 unfolding lengthFor
