@@ -12,7 +12,7 @@ use Rattle.network.proofs.Making.{clear-made}
 use Rattle.evidence.specs.Checks.{forestIn}
 use Rattle.checker.proofs.Nodes.{node-read}
 use Rattle.checker.proofs.Following.{Followed, followed-begun, followed-in, followed-out, Closed, closed-begun, closed-none, closed-out, closed-apart}
-use Rattle.checker.proofs.Going.{Given, given, Gone, Part, Inside, Sides, sides-whole, sides-less, tables-made, gone-begun, gone-ended}
+use Rattle.checker.proofs.Going.{Given, given, Gone, PartAt, Inside, Sides, sides-whole, sides-less, tables-made, gone-begun, gone-ended}
 use Rattle.checker.proofs.Going.{part-begun, part-node, part-link, part-stated, part-gone}
 use borrow.Author.Needs.{needs}
 use Rattle.checker.proofs.forests.parts_fault.Statement.{statement}
@@ -23,7 +23,7 @@ record Slots (x : Given) (row : List ℕ) (k q : ℕ) (left : List ℕ) (fault :
   pub some : 1 ≤ v
   pub within : v ≤ x .n + 1
   pub none : fault ≡ 0
-  pub part : Part x row k q left
+  pub part : PartAt x row k q left
   pub followed : Followed (x .links) left (forestIn edition1 (x .n) (x .ev) q) slots v
 
 -- the links of the locations below a are looked at, without a fault
