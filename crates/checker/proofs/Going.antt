@@ -121,7 +121,7 @@ pub record Gone (x : Given) (row : List ℕ) (k : ℕ) : Type 0 where
   pub reached : 1 ≤ k → Serves x (isHeld (pic x)) row
 
 -- part k is at hand: its forest starts at bit q, and this is held in it
-pub record Part (x : Given) (row : List ℕ) (k q : ℕ) (left : List ℕ) : Type 0 where
+pub record PartAt (x : Given) (row : List ℕ) (k q : ℕ) (left : List ℕ) : Type 0 where
   pub gone : Gone x row k
   pub most : k ≤ x .count
   pub at : q ≡ forestAt edition1 (x .n) k
@@ -133,7 +133,7 @@ pub record Inside (x : Given) (row : List ℕ) (k : ℕ) (inner outer : List ℕ
   pub q : ℕ
   pub left : List ℕ
   pub slots : List ℕ
-  pub part : Part x row k q left
+  pub part : PartAt x row k q left
   pub with : With slots 0 inner
   pub minus : Minus left inner outer
   pub v : ℕ
@@ -184,7 +184,7 @@ module _ {x : Given} where
 
   -- a part is at hand
   pub part-begun : {row : List ℕ} {k q : ℕ} {left : List ℕ} → Gone x row k → k ≤ x .count → q ≡ forestAt edition1 (x .n) k
-      → LeftIn (x .held) (x .size) (sectionIn edition1 (x .n) (x .ev) (k - 1) .block) k left → Part x row k q left
+      → LeftIn (x .held) (x .size) (sectionIn edition1 (x .n) (x .ev) (k - 1) .block) k left → PartAt x row k q left
   part-begun {k = k} g l e h =
       let t = g .tables in
       record { gone = g; most = l; at = e; small = omega (arith, forest-small (x .n) k (t .few-slots) (omega (arith, t .few-parts))); holding = h }
@@ -206,7 +206,7 @@ module _ {x : Given} where
     still whole now r = now
     still less now r = r (suc-le-suc zero-le)
 
-  module _ {row : List ℕ} {k q : ℕ} {left : List ℕ} (a : Part x row k q left) where
+  module _ {row : List ℕ} {k q : ℕ} {left : List ℕ} (a : PartAt x row k q left) where
     abbrev t : Tables x
     t = a .gone .tables
 

@@ -3,7 +3,7 @@ use mathlib.Core.Path.{_≡_, refl, sym, ap, _∙_}
 use mathlib.Core.Bool.{Bool, true, false, not}
 use mathlib.Core.List.{List, [], _∷_}
 use Prim.Native.Nat.{ℕ, zero, suc, _-_, _≤_, zero-le, suc-le-suc}
-use native.Mathlib.Omega.{arith}
+use native.Mathlib.Numerals.{sub-one}
 use lib.Dec.{eqb·suc-zero}
 use lib.ListN.{length, getD}
 use Rattle.lists.specs.Lists.{on, first}
@@ -40,9 +40,6 @@ unfoldable pub costAt : Picture → ℕ → Cost
 costAt p zero = record { block = 0; loss = servedWeight p; mark = 0 }
 costAt p (suc i) = weighed p (blockAt p i)
 
-pred-suc : (i : ℕ) → suc i - 1 ≡ i
-pred-suc i = omega arith
-
 module _ (bs ev : List ℕ) {n : ℕ} (many : slotCount (pictureOf bs) ≡ n) where
   abbrev p : Picture
   p = pictureOf bs
@@ -59,7 +56,7 @@ module _ (bs ev : List ℕ) {n : ℕ} (many : slotCount (pictureOf bs) ≡ n) wh
       → partFault bs ev k ≡ first (on (not (forestRight p (heldAt p k) (forestOf k))) 14 ∷ on (not (statedRight k)) 15 ∷ [])
   unfolding partFault heldAt costAt statedTest sectionFault firstForest sectionForest
   part-fault zero l = rw many
-  part-fault (suc i) l = rw (many, weighing-at p i l, weighed-block p (blockAt p i), eqb·suc-zero i, pred-suc i)
+  part-fault (suc i) l = rw (many, weighing-at p i l, weighed-block p (blockAt p i), eqb·suc-zero i, sub-one (suc i))
 
   module _ (k : ℕ) (l : k ≤ length (candidates p)) where
     -- the forest breaks a rule
@@ -92,7 +89,7 @@ module _ (bs ev : List ℕ) {n : ℕ} (many : slotCount (pictureOf bs) ≡ n) wh
     held-found s zero l h v = ap (λ (r : List ℕ). heldIn r v) (h .whole refl) ∙ s .held v
     held-found s (suc i) l h v =
         let k = h .less (suc-le-suc zero-le) in
-        left-held p (blockAt p i) _ _ (k .0) _ s (rw (pred-suc i, formed-block i l) at (k .1)) (k .2) v
+        left-held p (blockAt p i) _ _ (k .0) _ s (rw (sub-one (suc i), formed-block i l) at (k .1)) (k .2) v
 
   pub stated-found : (k : ℕ) {w m : ℕ} → w ≡ costAt p k .loss → (1 ≤ k → m ≡ costAt p k .mark) → statedTest n ev k w m ≡ statedRight k
   unfolding statedTest

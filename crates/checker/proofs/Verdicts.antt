@@ -37,7 +37,6 @@ module _ (n : ℕ) (ev : List ℕ) (count : ℕ) where
 
   -- the first i sections imply this choice, and one of them is named or none is
   pub record Implied (h : Head) (best : Choice) (named : Bool) (i : ℕ) : Type 0 where
-    pub within : i ≤ count
     pub best-kept : best ≡ least (take i (stated n ev count))
     pub named-kept : named ≡ any (names h) (take i (stated n ev count))
 
@@ -45,7 +44,7 @@ module _ (n : ℕ) (ev : List ℕ) (count : ℕ) where
     pub implied-begun : Implied h noChoice false 0
     implied-begun =
         let ws = stated n ev count in
-        record { within = omega arith; best-kept = sym (least-none-yet ws); named-kept = sym (any-take-none noCost (names h) ws) }
+        record { best-kept = sym (least-none-yet ws); named-kept = sym (any-take-none noCost (names h) ws) }
 
     -- one section more
     pub implied-next : {best : Choice} {named : Bool} {i : ℕ} {w : Cost} {best′ : Choice} {called named′ : Bool} → Implied h best named i → i < count
@@ -54,7 +53,6 @@ module _ (n : ℕ) (ev : List ℕ) (count : ℕ) where
         let within : i < length (stated n ev count) = rw stated-length l in
         let here = e ∙ sym (stated-at i l) in
         record {
-          within = omega arith;
           best-kept = rw (b, k .best-kept, here) (sym (least-more (stated n ev count) i within));
           named-kept = rw (m, k .named-kept, c, here) (sym (any-take-more noCost (names h) (stated n ev count) i within));
         }

@@ -12,7 +12,7 @@ use Rattle.network.proofs.Making.{clear-made}
 use Rattle.evidence.specs.Checks.{forestIn}
 use Rattle.checker.proofs.Nodes.{node-read}
 use Rattle.checker.proofs.Following.{Followed, followed-begun, followed-in, followed-out, Closed, closed-begun, closed-none, closed-out, closed-apart}
-use Rattle.checker.proofs.Going.{Given, given, Gone, Part, Inside, Sides, sides-whole, sides-less, tables-made, gone-begun, gone-ended}
+use Rattle.checker.proofs.Going.{Given, given, Gone, PartAt, Inside, Sides, sides-whole, sides-less, tables-made, gone-begun, gone-ended}
 use Rattle.checker.proofs.Going.{part-begun, part-node, part-link, part-stated, part-gone}
 use borrow.Author.Needs.{needs}
 use Rattle.checker.proofs.forests.parts_fault.Statement.{statement}
@@ -21,21 +21,18 @@ use Rattle.checker.proofs.forests.parts_fault.Tie as tie
 -- the slots below v are followed, without a fault
 record Slots (x : Given) (row : List ℕ) (k q : ℕ) (left : List ℕ) (fault : ℕ) (slots : List ℕ) (v : ℕ) : Type 0 where
   pub some : 1 ≤ v
-  pub within : v ≤ x .n + 1
   pub none : fault ≡ 0
-  pub part : Part x row k q left
+  pub part : PartAt x row k q left
   pub followed : Followed (x .links) left (forestIn edition1 (x .n) (x .ev) q) slots v
 
 -- the links of the locations below a are looked at, without a fault
 record Links (x : Given) (row : List ℕ) (k : ℕ) (inner outer : List ℕ) (fault a : ℕ) : Type 0 where
-  pub within : a ≤ x .n + 1
   pub none : fault ≡ 0
   pub inside : Inside x row k inner outer
   pub closed : Closed (x .links) inner outer a
 
 -- the parts before k are gone over, without a fault
 record Parts (x : Given) (row : List ℕ) (fault k : ℕ) : Type 0 where
-  pub within : k ≤ x .count + 1
   pub none : fault ≡ 0
   pub gone : Gone x row k
 
@@ -78,7 +75,7 @@ check-holds c =
     let l = s .before .before in
     let p = l .before .before .before .before .pre in
     let t = tables-made (p .0) (p .1) (p .2) (p .3) (l .link-rows .ensures) (s .service-link-rows .ensures) (c .endpoint-rows .ensures) in
-    record { within = omega arith; none = refl; gone = gone-begun t }
+    record { none = refl; gone = gone-begun t }
 
 forest-at-requires :
     tie.Need-forest-at-requires Inv-loop μ-loop Inv-loop2 μ-loop2 Inv-check μ-check
@@ -93,7 +90,7 @@ loop-holds : tie.Need-loop-holds Inv-loop μ-loop Inv-loop2 μ-loop2 Inv-check �
 loop-holds c =
     let i = c .before .before .before .check .inv in
     let part = part-begun (i .gone) (c .before .before .check-test .taken) (c .before .forest-at .ensures) (c .held-in .ensures) in
-    record { some = omega arith; within = omega arith; none = i .none; part = part; followed = followed-begun rowWords }
+    record { some = omega arith; none = i .none; part = part; followed = followed-begun rowWords }
 
 node-at-requires : tie.Need-node-at-requires Inv-loop μ-loop Inv-loop2 μ-loop2 Inv-check μ-check
 node-at-requires c κs = search needs
@@ -122,7 +119,6 @@ loop-again c =
     let r = sym (c .before .before .before .node-right .ensures) ∙ not-false _ (c .before .before .if1 .left) in
     record {
       some = omega arith;
-      within = omega (arith, k .before .loop-test .taken);
       none = l .inv .none;
       part = l .inv .part;
       followed =
@@ -151,7 +147,6 @@ loop2-holds c =
     let e = m .before .before .before in
     let i = e .before .loop .inv in
     record {
-      within = ⊎-elim (λ w. omega arith) (λ w. omega arith) (c .if3 .came);
       none = i .none;
       inside =
           record {
@@ -192,7 +187,6 @@ loop2-again c =
     let h = c .before .before in
     let i = h .before .before .before .loop2 .inv in
     record {
-      within = omega (arith, h .before .before .loop2-test .taken);
       none = i .none;
       inside = i .inside;
       closed =
@@ -229,7 +223,6 @@ check-again c =
     let l = c .before .before .before .before .before .before in
     let i = l .before .loop2 .inv in
     record {
-      within = omega arith;
       none = i .none;
       gone =
           part-gone (i .inside) (i .closed) (l .loop2-test .left) (sides (c .before .before .before .before .before)) (c .before .before .lost-between .ensures)
