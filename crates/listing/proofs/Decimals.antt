@@ -10,7 +10,7 @@ use native.Mathlib.Numerals.{one-add, unary-clauses}
 use native.Mathlib.Decide.{ℕ-discrete, decLt}
 use borrow.Author.Tests.{lt-ltb, le-ltb}
 use lib.Dec.{ltb}
-use lib.ListN.{length, take, length-append}
+use lib.ListN.{length, length-append}
 use Rattle.lists.specs.Lists.{range, place}
 use Rattle.lists.proofs.Ranges.{length-range}
 use Rattle.lists.proofs.Searches.{place-le, place-first}
@@ -36,7 +36,7 @@ below-power zero = omega arith
 below-power (suc j) = omega (arith, pow-succ' 10 j, below-power j)
 
 -- the fewest digits that hold n are its places
-fewest-places : (n r : ℕ) → Fewest 10 1 n r → r ≡ places n
+pub fewest-places : (n r : ℕ) → Fewest 10 1 n r → r ≡ places n
 unfolding places
 fewest-places n zero f = absurd (omega (arith, f .0))
 fewest-places n (suc j) f = ap suc (sym (place-is (λ k. ltb n (10 ^ k)) 1 n j ends before here))
@@ -80,8 +80,3 @@ item-short word n h = omega (arith, length-append word (decimal n), decimal-shor
 pub item-ends : {buf : List ℕ} {at : ℕ} (word : List ℕ) {n : ℕ} {out : List ℕ} {end : ℕ} → Texted buf at (item word n) out end → n < 10 ^ 8
     → end ≤ at + (length word + 8)
 item-ends word {n} t h = omega (arith, t .ends, item-short word n h)
-
--- the digits that are written are the number in decimal
-pub written-decimal : {n r : ℕ} (out : List ℕ) → Fewest 10 1 n r → take r out ≡ digits 10 r n → take r out ≡ decimal n
-unfolding decimal
-written-decimal {n} {r} out f e = e ∙ ap (λ (k : ℕ). digits 10 k n) (fewest-places n r f)

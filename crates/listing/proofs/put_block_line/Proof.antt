@@ -22,13 +22,13 @@ lost c = c .before .before .before .before .before
 -- ---- where each item ends
 
 named-end : (c : tie.After-put-item) → c .put-item .result ≤ start c .args .at + 14
-named-end c = item-ends _ (c .put-item .ensures) (start c .pre .0)
+named-end c = item-ends _ (c .put-item .ensures) (omega arith)
 
 lost-end : (c : tie.After-put-item2) → c .put-item2 .result ≤ start (named c) .args .at + 28
-lost-end c = omega (arith, named-end (named c), item-ends _ (c .put-item2 .ensures) (start (named c) .pre .1))
+lost-end c = omega (arith, named-end (named c), item-ends _ (c .put-item2 .ensures) (omega arith))
 
 marked-end : (c : tie.After-put-item3) → c .put-item3 .result ≤ start (named (lost c)) .args .at + 42
-marked-end c = omega (arith, lost-end (lost c), item-ends _ (c .put-item3 .ensures) (start (named (lost c)) .pre .2))
+marked-end c = omega (arith, lost-end (lost c), item-ends _ (c .put-item3 .ensures) (omega arith))
 
 -- ---- the answers
 

@@ -11,22 +11,19 @@ use Rattle.listing.proofs.put_choice_line.Tie as tie
 
 -- ---- the places of the code where a block is chosen, each from the next
 
-abbrev chosen : tie.After-put-item → tie.Else1
-chosen c = c .before .before .before
-
-abbrev start : tie.Else1 → tie.Start
-start c = c .before .before .before
+abbrev start : tie.After-put-item → tie.Start
+start c = c .before .before .before .before .before .before
 
 abbrev named : tie.After-put-item2 → tie.After-put-item
 named c = c .before .before .before .before .before
 
 -- ---- where each item ends
 
-named-end : (c : tie.After-put-item) → c .put-item .result ≤ start (chosen c) .args .at + 15
-named-end c = item-ends _ (c .put-item .ensures) (start (chosen c) .pre .0)
+named-end : (c : tie.After-put-item) → c .put-item .result ≤ start c .args .at + 15
+named-end c = item-ends _ (c .put-item .ensures) (omega arith)
 
-lost-end : (c : tie.After-put-item2) → c .put-item2 .result ≤ start (chosen (named c)) .args .at + 29
-lost-end c = omega (arith, named-end (named c), item-ends _ (c .put-item2 .ensures) (start (chosen (named c)) .pre .1))
+lost-end : (c : tie.After-put-item2) → c .put-item2 .result ≤ start (named c) .args .at + 29
+lost-end c = omega (arith, named-end (named c), item-ends _ (c .put-item2 .ensures) (omega arith))
 
 -- ---- the answers
 
@@ -85,7 +82,8 @@ unfolding chooseWord lostWord lineEnd
 returns-2 c =
     let w = c .before .before in
     let l = w .before .before .before .before .before in
-    rw (choice-named (chosen (named l) .if1 .left)) (text-then (named l .put-item .ensures) (text-then (l .put-item2 .ensures) (w .put-word4 .ensures)))
+    let n = named l in
+    rw (choice-named (n .before .before .before .if1 .left)) (text-then (n .put-item .ensures) (text-then (l .put-item2 .ensures) (w .put-word4 .ensures)))
 
 pub put-choice-line-spec : {M : Type 1} → statement M
 put-choice-line-spec =

@@ -1,11 +1,13 @@
 -- `put_item` puts the word and the digits behind it. Assumes nothing.
-use mathlib.Core.Path.{_≡_, ap}
+use mathlib.Core.Path.{_≡_, ap, _∙_}
+use Prim.Native.Nat.{ℕ}
 use native.Mathlib.Omega.{arith}
 use lib.ListN.{length, take}
+use Rattle.io.specs.Digits.{digits}
 use Rattle.listing.specs.Decimal.{decimal}
 use Rattle.listing.specs.Listing.{item}
 use Rattle.listing.proofs.Texts.{text-then}
-use Rattle.listing.proofs.Decimals.{decimal-short, written-decimal}
+use Rattle.listing.proofs.Decimals.{fewest-places, decimal-short}
 use borrow.Author.Needs.{needs}
 use Rattle.listing.proofs.put_item.Statement.{statement}
 use Rattle.listing.proofs.put_item.Tie as tie
@@ -19,7 +21,8 @@ worded c = c .before .before .before .before
 
 -- the digits are the number in decimal
 shown : (c : tie.After-decimal) → take (c .decimal .result) (c .decimal .last .1 .0) ≡ decimal (start c .args .number)
-shown c = written-decimal _ (c .decimal .ensures .1 .0) (c .decimal .ensures .1 .1)
+unfolding decimal
+shown c = let e = c .decimal .ensures .1 in e .1 ∙ ap (λ (k : ℕ). digits 10 k (start c .args .number)) (fewest-places _ _ (e .0))
 
 decimal-requires : tie.Need-decimal-requires
 decimal-requires c κs = search needs

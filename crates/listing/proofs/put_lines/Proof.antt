@@ -1,5 +1,5 @@
 -- `put_lines` puts the served weight, section by section, and the choice. Assumes nothing.
-use mathlib.Core.Path.{_≡_, _∙_}
+use mathlib.Core.Path.{_≡_}
 use mathlib.Core.List.{List}
 use Prim.Native.Nat.{ℕ, _+_, _-_, _≤_}
 use native.Mathlib.Omega.{arith}
@@ -40,10 +40,7 @@ few c = let s = served c in rw (headed s .head-of .ensures) (start s .pre .1)
 
 -- after as many lines there is room for one more
 room : (c : tie.At-loop Inv-loop μ-loop) → c .loop .at + 43 ≤ length (c .loop .text)
-room c =
-    let s = served c in
-    let t = c .loop .inv .1 in
-    omega (arith, few c, c .loop .inv .0, t .low, text-long (t .texted), text-long (s .put-served-line .ensures), start s .pre .2)
+room c = let t = c .loop .inv .1 in omega (arith, few c, t .low, text-long (t .texted))
 
 -- ---- the answers
 
@@ -51,19 +48,13 @@ head-of-requires : tie.Need-head-of-requires Inv-loop μ-loop
 head-of-requires c κs = search needs
 
 put-served-line-requires : tie.Need-put-served-line-requires Inv-loop μ-loop
-put-served-line-requires c κs =
-    let h = c .before in
-    rw (h .head-of .ensures) (omega (arith, head-below (h .before .before .before .args .ev .now)))
+put-served-line-requires c κs = rw (c .before .head-of .ensures) (omega (arith, head-below (c .before .before .before .before .args .ev .now)))
 
 loop-holds : tie.Need-loop-holds Inv-loop μ-loop
-loop-holds c =
-    let s = c .before .before in
-    (omega arith, telling-begun _ _ (rw (headed s .head-of .ensures) at (s .put-served-line .ensures)))
+loop-holds c = let s = c .before .before in (omega arith, telling-begun _ _ (rw (headed s .head-of .ensures) at (s .put-served-line .ensures)))
 
 section-of-requires : tie.Need-section-of-requires Inv-loop μ-loop
-section-of-requires c κs =
-    let l = c .before .before .before in
-    (start (served l) .pre .0, omega (arith, few l, c .before .if1 .taken))
+section-of-requires c κs = omega (arith, few (c .before .before .before))
 
 put-block-line-requires : tie.Need-put-block-line-requires Inv-loop μ-loop
 put-block-line-requires c κs =
@@ -88,10 +79,7 @@ put-choice-line-requires c κs =
     rw (headed (served l) .head-of .ensures) (omega (arith, head-below (ev l), room l))
 
 same-length : tie.Need-same-length Inv-loop μ-loop
-same-length c =
-    let k = c .before .before in
-    let l = k .before .before .before .before in
-    text-long (k .put-choice-line .ensures) ∙ text-long (l .loop .inv .1 .texted) ∙ text-long (served l .put-served-line .ensures)
+same-length c = omega (arith, text-long (c .before .before .before .before .before .before .loop .inv .1 .texted))
 
 returns : tie.Need-returns Inv-loop μ-loop
 returns c =

@@ -17,9 +17,7 @@ slice-aggregate-put-word : tie.Need-slice-aggregate-put-word
 slice-aggregate-put-word c = search needs
 
 put-word-requires : tie.Need-put-word-requires
-put-word-requires c κs =
-    let i = c .before .before .before .before in
-    omega (arith, item-ends _ (i .put-item .ensures) (i .before .before .before .before .pre .0))
+put-word-requires c κs = omega (arith, item-ends _ (c .before .before .before .before .put-item .ensures) (omega arith))
 
 same-length : tie.Need-same-length
 same-length c = search needs
