@@ -5,11 +5,12 @@ use Prim.Native.Nat.{ℕ, zero, suc, _+_, _*_, _^_, _≤_, _<_}
 use native.Mathlib.Omega.{arith}
 use native.Mathlib.Nat.{mul-le-mul-right, suc-mul, mul-assoc}
 use Rattle.bits.specs.Bits.{fieldAt}
+use Rattle.bits.proofs.Reading.{fieldAt-below}
 use Rattle.lists.specs.Lists.{sum}
 use Rattle.rows.specs.Rows.{slotsMax}
 use Rattle.picture.specs.Layout.{edition1, fieldIn}
 use Rattle.evidence.specs.Layout.{headWidths, nodeWidths, sectionWidths, forestBits, sectionBits, sectionBytes, sectionAt, forestAt}
-use Rattle.evidence.specs.Checks.{sectionIn}
+use Rattle.evidence.specs.Checks.{headIn, sectionIn}
 
 -- the numbers of edition 1, as the code has them
 pub section-bits : (n : ℕ) → sectionBits edition1 n ≡ 40 + n * 16
@@ -69,3 +70,14 @@ module _ (n : ℕ) (ev : List ℕ) (i : ℕ) {at : ℕ} (e : at ≡ sectionAt ed
   pub mark-at : fieldAt ev (at + 32) 8 ≡ sectionIn edition1 n ev i .mark
   unfolding sectionIn sectionWidths fieldIn sum
   mark-at = ap (λ (q : ℕ). fieldAt ev (q + 32) 8) e
+
+-- no number that the head or a section states has more than 24 bits
+module _ (ev : List ℕ) where
+  pub head-below : (headIn ev .block < 2 ^ 24) × (headIn ev .served < 2 ^ 24) × (headIn ev .loss < 2 ^ 24)
+  unfolding headIn headWidths fieldIn
+  head-below = (fieldAt-below ev _ 8 24 refl (omega arith), fieldAt-below ev _ 24 24 refl (omega arith), fieldAt-below ev _ 24 24 refl (omega arith))
+
+  pub section-below : (n i : ℕ) → let w = sectionIn edition1 n ev i in (w .block < 2 ^ 24) × (w .loss < 2 ^ 24) × (w .mark < 2 ^ 24)
+  unfolding sectionIn sectionWidths fieldIn
+  section-below n i =
+      (fieldAt-below ev _ 8 24 refl (omega arith), fieldAt-below ev _ 24 24 refl (omega arith), fieldAt-below ev _ 8 24 refl (omega arith))

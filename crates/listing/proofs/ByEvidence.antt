@@ -1,59 +1,59 @@
--- The lines that the evidence of an accepted picture tells are those of its plan. Assumes nothing.
-use mathlib.Core.Path.{_≡_, sym, ap, _∙_}
-use mathlib.Core.List.{List, map}
-use Prim.Native.Nat.{ℕ, _<_}
+-- The lines that the evidence of an accepted picture tells are its listing. Assumes nothing.
+use mathlib.Core.Path.{_≡_, refl, sym, ap, _∙_}
+use mathlib.Core.List.{List, [], _∷_, map}
+use Prim.Native.Nat.{ℕ, suc, _+_, _<_}
 use native.Mathlib.Omega.{arith}
-use native.Mathlib.Nat.{zero-add}
-use lib.ListN.{length, getD, length-map, List·getD-map}
-use lib.Seq.{ext-getD}
+use native.Mathlib.Nat.{add-zero, zero-add}
+use lib.ListN.{length, getD}
 use Rattle.lists.specs.Lists.{range, flat}
-use Rattle.lists.proofs.Ranges.{length-range, getD-map-range}
+use Rattle.picture.specs.declared.Header.{Header}
 use Rattle.picture.specs.Layout.{edition1}
 use Rattle.picture.specs.Picture.{Picture, pictureOf}
-use Rattle.picture.specs.Faults.{pictureFault}
+use Rattle.picture.specs.Inner.{Read}
 use Rattle.network.specs.Words.{slotCount}
-use Rattle.network.specs.Tests.{weighed, candidates}
+use Rattle.network.specs.Tests.{candidates}
 use Rattle.network.proofs.Weights.{weighed-block}
-use Rattle.evidence.specs.Canonical.{weighings, evidenceOf}
-use Rattle.evidence.proofs.Picked.{unweighed}
-use Rattle.evidence.proofs.Fields.{length-weighings, weighing-at}
+use Rattle.network.proofs.Blocks.{read-slots}
+use Rattle.evidence.specs.Canonical.{noCost, weighings, evidenceOf}
+use Rattle.evidence.specs.Checks.{sectionIn}
+use Rattle.evidence.proofs.Weighings.{weighings-length, weighing-at}
 use Rattle.evidence.proofs.Held.{Reads, evidence-reads}
-use Rattle.listing.specs.Listing.{blockLine, planLines}
-use Rattle.listing.specs.ByEvidence.{sectionLine, sectionLines, evidenceLines}
+use Rattle.listing.specs.Listing.{blockLine, planLines, listing, listingOf}
+use Rattle.listing.specs.ByEvidence.{sectionLines, evidenceLines}
+
+-- what stands at each place of a list, place by place
+by-places : {A B : Type 0} (f : ℕ → B) (g : A → B) (d : A) (i : ℕ) (l : List A) → ((k : ℕ) → k < length l → f (i + k) ≡ g (getD l k d))
+    → map f (range i (length l)) ≡ map g l
+unfolding range
+by-places f g d i [] h = refl
+by-places f g d i (x ∷ l) h =
+    let rest = by-places f g d (suc i) l (λ k s. ap f (omega arith) ∙ h (suc k) (omega arith)) in
+    rw (ap f (sym (add-zero i)) ∙ h 0 (omega arith), rest)
 
 module _ (p : Picture) (ev : List ℕ) (r : Reads edition1 p ev) where
-  -- the line of section i is that of the i-th candidate
-  section-told : (i : ℕ) → i < length (candidates p) → sectionLine (slotCount p) ev i ≡ blockLine (weighed p (getD (candidates p) i 0))
-  unfolding sectionLine blockLine
-  section-told i h = rw (r .blocks i h, r .losses i h, r .marks i h, weighed-block p (getD (candidates p) i 0))
+  -- section i states what the i-th candidate costs
+  section-told : (i : ℕ) → i < length (weighings p) → sectionIn edition1 (slotCount p) ev i ≡ getD (weighings p) i noCost
+  section-told i l =
+      let h : i < length (candidates p) = omega (arith, weighings-length p) in
+      let block = r .blocks i h ∙ sym (weighed-block p (getD (candidates p) i 0)) in
+      (λ j. record { block = block j; loss = r .losses i h j; mark = r .marks i h j }) ∙ sym (weighing-at p i h)
 
-  -- the lines of all sections are those of the candidates, in their order
+  -- so the lines of all sections are those of the candidates, in their order
   sections-told : sectionLines (slotCount p) ev (length (candidates p)) ≡ flat (map blockLine (weighings p))
   unfolding sectionLines
-  sections-told = ap flat (ext-getD (blockLine unweighed) told lines (long ∙ sym (length-map (weighings p) blockLine ∙ length-weighings p)) (λ i h. same i (omega (arith, long))))
-    where
-      told : List (List ℕ)
-      told = map (sectionLine (slotCount p) ev) (range 0 (length (candidates p)))
-
-      lines : List (List ℕ)
-      lines = map blockLine (weighings p)
-
-      long : length told ≡ length (candidates p)
-      long = length-map (range 0 (length (candidates p))) (sectionLine (slotCount p) ev) ∙ length-range 0 (length (candidates p))
-
-      same : (i : ℕ) → i < length (candidates p) → getD told i (blockLine unweighed) ≡ getD lines i (blockLine unweighed)
-      same i h =
-          getD-map-range (sectionLine (slotCount p) ev) (blockLine unweighed) 0 (length (candidates p)) i h
-          ∙ ap (sectionLine (slotCount p) ev) (zero-add i)
-          ∙ section-told i h
-          ∙ ap blockLine (sym (weighing-at p i h))
-          ∙ sym (List·getD-map blockLine (weighings p) i unweighed)
+  sections-told =
+      let line : ℕ → List ℕ = λ i. blockLine (sectionIn edition1 (slotCount p) ev i) in
+      let all = by-places line blockLine noCost 0 (weighings p) (λ i h. ap line (zero-add i) ∙ ap blockLine (section-told i h)) in
+      rw (← weighings-length p) (ap flat all)
 
   -- with the served weight and the choice
   lines-told : evidenceLines (slotCount p) ev ≡ planLines p
   unfolding evidenceLines planLines
   lines-told = rw (r .served, r .count, sections-told, r .verdict, r .block, r .loss)
 
--- the evidence tells the plan
-pub plan-told : (bs : List ℕ) → pictureFault bs ≡ 0 → evidenceLines (slotCount (pictureOf bs)) (evidenceOf bs) ≡ planLines (pictureOf bs)
-plan-told bs ok = lines-told (pictureOf bs) (evidenceOf bs) (evidence-reads bs ok)
+-- so what the evidence of accepted bytes tells is their listing
+pub evidence-listed : {bs : List ℕ} {h : Header} → Read bs h → evidenceLines (h .slots) (evidenceOf bs) ≡ listing bs
+unfolding listing listingOf
+evidence-listed {bs} {h} r =
+    let ok = r .accepted in
+    rw (← read-slots bs h r, ok) (lines-told (pictureOf bs) (evidenceOf bs) (evidence-reads bs ok))

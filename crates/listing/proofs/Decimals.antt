@@ -10,25 +10,25 @@ use native.Mathlib.Numerals.{one-add, unary-clauses}
 use native.Mathlib.Decide.{ℕ-discrete, decLt}
 use borrow.Author.Tests.{lt-ltb, le-ltb}
 use lib.Dec.{ltb}
-use lib.ListN.{length, take, length-append}
+use lib.ListN.{length, length-append}
 use Rattle.lists.specs.Lists.{range, place}
 use Rattle.lists.proofs.Ranges.{length-range}
 use Rattle.lists.proofs.Searches.{place-le, place-first}
 use Rattle.lists.proofs.Picks.{getD-range}
-use Rattle.bits.specs.Bits.{fieldAt}
-use Rattle.bits.proofs.Reading.{fieldAt-below}
 use Rattle.io.specs.Digits.{digits, Fewest}
 use Rattle.listing.specs.Decimal.{places, decimal}
 use Rattle.listing.specs.Text.{Texted}
 use Rattle.listing.specs.Listing.{item}
 
 -- the place of the first number that passes is j, where the j before it do not and it does, or the numbers end
-place-is : (f : ℕ → Bool) (i k j : ℕ) → j ≤ k → ((m : ℕ) → m < j → f (i + m) ≡ false) → (j < k → f (i + j) ≡ true) → place f (range i k) ≡ j
+place-is : (f : ℕ → Bool) (i k j : ℕ) → j ≤ k → ((m : ℕ) → m < j → f (i + m) ≡ false) → (j < k → f (i + j) ≡ true)
+    → place f (range i k) ≡ j
 unfolding place range
 place-is f i zero j h a b = omega arith
 place-is f i (suc k) zero h a b = rw (rw add-zero at (b (omega arith)))
 place-is f i (suc k) (suc j) h a b =
-    rw (rw add-zero at (a 0 (omega arith)), place-is f (suc i) k j (omega arith) (λ m l. ap f (omega arith) ∙ a (suc m) (omega arith)) (λ l. ap f (omega arith) ∙ b (omega arith)))
+    let rest = place-is f (suc i) k j (omega arith) (λ m l. ap f (omega arith) ∙ a (suc m) (omega arith)) (λ l. ap f (omega arith) ∙ b (omega arith)) in
+    rw (rw add-zero at (a 0 (omega arith)), rest)
 
 -- j is below 10 to the j
 below-power : (j : ℕ) → j < 10 ^ j
@@ -48,7 +48,9 @@ fewest-places n (suc j) f = ap suc (sym (place-is (λ k. ltb n (10 ^ k)) 1 n j e
     ends = by-cases (ℕ-discrete j 0) (λ e. omega arith) (λ e. omega (arith, below-power j, least (omega arith)))
 
     before : (m : ℕ) → m < j → ltb n (10 ^ (1 + m)) ≡ false
-    before m l = le-ltb n (10 ^ (1 + m)) (omega (arith, least (omega arith), pow-le-pow-right {n = 10} (omega arith) {i = 1 + m} {j = j} (omega arith)))
+    before m l =
+        let p : 10 ^ (1 + m) ≤ 10 ^ j = pow-le-pow-right (omega arith) (omega arith) in
+        le-ltb n (10 ^ (1 + m)) (omega (arith, least (omega arith)))
 
     here : j < n → ltb n (10 ^ (1 + j)) ≡ true
     here l = lt-ltb n (10 ^ (1 + j)) (rw one-add (f .1))
@@ -75,14 +77,6 @@ unfolding item
 item-short word n h = omega (arith, length-append word (decimal n), decimal-short n h)
 
 -- so that they end there
-pub item-ends : {buf : List ℕ} {at : ℕ} (word : List ℕ) {n : ℕ} {out : List ℕ} {end : ℕ} → Texted buf at (item word n) out end → n < 10 ^ 8 → end ≤ at + (length word + 8)
+pub item-ends : {buf : List ℕ} {at : ℕ} (word : List ℕ) {n : ℕ} {out : List ℕ} {end : ℕ} → Texted buf at (item word n) out end → n < 10 ^ 8
+    → end ≤ at + (length word + 8)
 item-ends word {n} t h = omega (arith, t .ends, item-short word n h)
-
--- a field of the evidence has at most eight digits
-pub field-small : (ev : List ℕ) (p w : ℕ) {v : ℕ} → v ≡ fieldAt ev p w → w ≤ 24 → v < 10 ^ 8
-field-small ev p w e h = omega (arith, fieldAt-below ev p w 24 e h)
-
--- the digits that are written are the number in decimal
-pub written-decimal : {n r : ℕ} (out : List ℕ) → Fewest 10 1 n r → take r out ≡ digits 10 r n → take r out ≡ decimal n
-unfolding decimal
-written-decimal {n} {r} out f e = e ∙ ap (λ (k : ℕ). digits 10 k n) (fewest-places n r f)

@@ -3,5 +3,4 @@ pub mod Texts
 pub mod Decimals
 pub mod Lines
 pub mod ByEvidence
-pub mod Answering
 pub mod Long

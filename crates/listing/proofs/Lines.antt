@@ -1,70 +1,73 @@
 -- The lines of a listing, one after the other. Assumes nothing.
-use mathlib.Core.Path.{_≡_, refl, sym, ap, _∙_}
+use mathlib.Core.Path.{_≡_, refl}
 use mathlib.Core.Logic.{_≢_}
-use mathlib.Core.List.{List, _++_, map}
+use mathlib.Core.List.{List, _++_}
 use Prim.Native.Nat.{ℕ, zero, suc, _+_, _*_, _≤_}
 use native.Mathlib.Omega.{arith}
 use native.Mathlib.Nat.{zero-add}
 use native.Mathlib.Numerals.{add-one}
 use lib.ListN.{length, length-append}
-use Rattle.lists.specs.Lists.{range, flat, sum}
+use Rattle.lists.specs.Lists.{range, flat}
 use Rattle.lists.proofs.Growing.{range-more, flat-map-more}
-use Rattle.picture.specs.Layout.{fieldIn}
-use Rattle.evidence.specs.Layout.{headWidths}
-use Rattle.evidence.specs.Checks.{headIn}
-use Rattle.evidence.proofs.Places.{block-at, loss-at, mark-at}
+use Rattle.picture.specs.Layout.{edition1}
+use Rattle.evidence.specs.declared.Head.{Head}
+use Rattle.evidence.specs.Checks.{headIn, sectionIn}
+use Rattle.evidence.proofs.Places.{head-below, section-below}
 use Rattle.listing.specs.Text.{Texted}
 use Rattle.listing.specs.Listing.{servedWord, blockWord, lostWord, markWord, chooseWord, lineEnd, item, servedLine, blockLine, choiceLine}
-use Rattle.listing.specs.ByEvidence.{sectionLine, sectionLines}
+use Rattle.listing.specs.ByEvidence.{sectionLines, evidenceLines}
 use Rattle.listing.proofs.Texts.{text-none, text-long, text-then}
-use Rattle.listing.proofs.Decimals.{item-short, field-small}
+use Rattle.listing.proofs.Decimals.{item-short}
 
 -- the line of a choice that names a block
-pub choice-named : (verdict block loss : ℕ) → verdict ≢ 0 → choiceLine verdict block loss ≡ item chooseWord block ++ (item lostWord loss ++ lineEnd)
+pub choice-named : {verdict : ℕ} → verdict ≢ 0 → (block loss : ℕ) → choiceLine verdict block loss ≡ item chooseWord block ++ (item lostWord loss ++ lineEnd)
 unfolding choiceLine
-choice-named zero block loss n = absurd (n refl)
-choice-named (suc k) block loss n = refl
-
--- ---- how long a line is
-
--- three words of six bytes, three numbers of eight digits and the end of the line are 43 bytes; the served weight takes fewer
-served-short : (ev : List ℕ) → length (servedLine (headIn ev .served)) ≤ 43
-unfolding servedLine servedWord lineEnd headIn headWidths fieldIn sum
-served-short ev = simp length-append (omega (arith, item-short servedWord _ (field-small ev 24 24 refl (omega arith))))
-
-section-short : (n : ℕ) (ev : List ℕ) (i : ℕ) → length (sectionLine n ev i) ≤ 43
-unfolding sectionLine blockLine blockWord lostWord markWord lineEnd
-section-short n ev i =
-    simp length-append
-    (omega (
-      arith,
-      item-short blockWord _ (field-small ev _ 8 (sym (block-at n ev i refl)) (omega arith)),
-      item-short lostWord _ (field-small ev _ 24 (sym (loss-at n ev i refl)) (omega arith)),
-      item-short markWord _ (field-small ev _ 8 (sym (mark-at n ev i refl)) (omega arith)),
-    ))
-
--- ---- section by section
-
--- from byte at₀ on, where the served weight ended, the lines of the first i sections are told
-pub record Telling (n : ℕ) (ev text₀ : List ℕ) (at₀ : ℕ) (text : List ℕ) (at i : ℕ) : Type 0 where
-  pub texted : Texted text₀ at₀ (sectionLines n ev i) text at
-  pub low : at ≤ 43 * (i + 1)
+choice-named {verdict = zero} n block loss = absurd (n refl)
+choice-named {verdict = suc k} n block loss = refl
 
 module _ (n : ℕ) (ev : List ℕ) where
-  -- a section more is a line more
-  sections-more : (i : ℕ) → sectionLines n ev (i + 1) ≡ sectionLines n ev i ++ sectionLine n ev i
-  unfolding sectionLines
-  sections-more i =
-      ap (λ (l : List ℕ). flat (map (sectionLine n ev) l)) (ap (range 0) (add-one i) ∙ range-more 0 i)
-      ∙ flat-map-more (sectionLine n ev) (range 0 i) (0 + i)
-      ∙ ap (λ (j : ℕ). flat (map (sectionLine n ev) (range 0 i)) ++ sectionLine n ev j) (zero-add i)
+  -- the line of section i
+  abbrev line : ℕ → List ℕ
+  line i = blockLine (sectionIn edition1 n ev i)
+
+  -- three words of six bytes, three numbers of eight digits and the end of the line are 43 bytes; the served weight takes fewer
+  served-short : length (servedLine (headIn ev .served)) ≤ 43
+  unfolding servedLine servedWord lineEnd
+  served-short = simp length-append (omega (arith, item-short servedWord (headIn ev .served) (omega (arith, head-below ev))))
+
+  line-short : (i : ℕ) → length (line i) ≤ 43
+  unfolding blockLine blockWord lostWord markWord lineEnd
+  line-short i =
+      let w = sectionIn edition1 n ev i in
+      let b = section-below ev n i in
+      let block = item-short blockWord (w .block) (omega arith) in
+      let loss = item-short lostWord (w .loss) (omega arith) in
+      let mark = item-short markWord (w .mark) (omega arith) in
+      simp length-append (omega arith)
+
+  -- from byte at₀ on, where the served weight ended, the lines of the first i sections are told
+  pub record Telling (text₀ : List ℕ) (at₀ : ℕ) (text : List ℕ) (at i : ℕ) : Type 0 where
+    pub texted : Texted text₀ at₀ (sectionLines n ev i) text at
+    pub low : at ≤ 43 * (i + 1)
 
   -- the served weight is told, and no section yet
-  pub telling-begun : {buf text : List ℕ} {at : ℕ} → Texted buf 0 (servedLine (headIn ev .served)) text at → Telling n ev text at text at 0
+  pub telling-begun : {buf text : List ℕ} {at : ℕ} → Texted buf 0 (servedLine (headIn ev .served)) text at → Telling text at text at 0
   unfolding sectionLines range flat
-  telling-begun {text = text} {at = at} t = record { texted = text-none text at (omega (arith, t .ends, t .room, text-long t)); low = omega (arith, t .ends, served-short ev) }
+  telling-begun {text = text} {at = at} t =
+      record { texted = text-none text at (omega (arith, t .ends, t .room, text-long t)); low = omega (arith, t .ends, served-short) }
 
-  -- a line more
-  pub telling-next : {text₀ : List ℕ} {at₀ : ℕ} {text : List ℕ} {at : ℕ} {out : List ℕ} {end : ℕ} (i : ℕ) → Telling n ev text₀ at₀ text at i → Texted text at (sectionLine n ev i) out end
-      → Telling n ev text₀ at₀ out end (i + 1)
-  telling-next i p t = record { texted = rw (sections-more i) (text-then (p .texted) t); low = omega (arith, p .low, t .ends, section-short n ev i) }
+  -- a section more is a line more
+  sections-more : (i : ℕ) → sectionLines n ev (i + 1) ≡ sectionLines n ev i ++ line i
+  unfolding sectionLines
+  sections-more i = rw (add-one i, range-more 0 i, zero-add i) (flat-map-more line (range 0 i) i)
+
+  pub telling-next : {text₀ : List ℕ} {at₀ : ℕ} {text : List ℕ} {at : ℕ} {out : List ℕ} {end : ℕ} (i : ℕ) → Telling text₀ at₀ text at i
+      → Texted text at (blockLine (sectionIn edition1 n ev i)) out end → Telling text₀ at₀ out end (i + 1)
+  telling-next i p t = record { texted = rw (sections-more i) (text-then (p .texted) t); low = omega (arith, p .low, t .ends, line-short i) }
+
+  -- all sections are told, and the choice
+  pub telling-ended : {head : Head} {buf text₀ : List ℕ} {at₀ : ℕ} {text : List ℕ} {at i : ℕ} {out : List ℕ} {end : ℕ} → head ≡ headIn ev
+      → Texted buf 0 (servedLine (head .served)) text₀ at₀ → Telling text₀ at₀ text at i → i ≡ head .count
+      → Texted text at (choiceLine (head .verdict) (head .block) (head .loss)) out end → Texted buf 0 (evidenceLines n ev) out end
+  unfolding evidenceLines
+  telling-ended e served p all choice = rw e at (text-then served (text-then (rw all at (p .texted)) choice))

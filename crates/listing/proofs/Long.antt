@@ -1,8 +1,9 @@
--- The program reads the longest picture and a byte more: the listing of those bytes is that of all the input. Assumes nothing.
+-- What is listed of bytes with a fault. So the program may read the longest picture and a byte more: the listing of those bytes is that of all
+-- the input. Assumes nothing.
 use mathlib.Core.Path.{_≡_, refl, sym, ap, _∙_}
-use mathlib.Core.Logic.{by-cases}
+use mathlib.Core.Logic.{_≢_, by-cases}
 use mathlib.Core.List.{List}
-use Prim.Native.Nat.{ℕ, _+_, _<_}
+use Prim.Native.Nat.{ℕ, zero, suc, _+_, _<_}
 use native.Mathlib.Omega.{arith}
 use native.Mathlib.Decide.{decLt}
 use lib.ListN.{length, take}
@@ -10,8 +11,13 @@ use lib.Seq.{take-all}
 use Rattle.picture.specs.Layout.{pictureMax}
 use Rattle.picture.specs.Faults.{pictureFault}
 use Rattle.picture.proofs.Long.{fault-same, faulty}
-use Rattle.listing.specs.Listing.{listing}
-use Rattle.listing.proofs.Answering.{listing-refused}
+use Rattle.listing.specs.Listing.{refusedLine, listing, listingOf}
+
+-- bytes with a fault are listed as a refusal
+pub listing-refused : (bs : List ℕ) (k : ℕ) → pictureFault bs ≡ k → k ≢ 0 → listing bs ≡ refusedLine k
+unfolding listing listingOf
+listing-refused bs zero e n = absurd (n refl)
+listing-refused bs (suc k) e n = rw e
 
 -- any number of bytes over that of the longest picture will do
 listing-long : (m : ℕ) → pictureMax < m → (bs : List ℕ) → listing (take m bs) ≡ listing bs

@@ -1,8 +1,15 @@
 -- `main` lists what it read. Assumes nothing.
-use Rattle.listing.proofs.Answering.{listing-front}
+use lib.ListN.{take}
+use Rattle.listing.specs.Listing.{listing}
+use Rattle.listing.proofs.Texts.{Front, front}
 use borrow.Author.Needs.{needs}
 use Rattle.blockplan.proofs.main.Statement.{statement}
 use Rattle.blockplan.proofs.main.Tie as tie
+
+-- the listing of what was read stands at the front of the text
+listed : (c : tie.After-list) → let r = c .before .before .before .before .read-full in
+    Front (listing (take (r .result) (r .last .1 .0))) (c .list .result) (c .list .last .1 .0)
+listed c = front _ _ (c .list .ensures .0) (c .list .ensures .1)
 
 slice-aggregate-read-full : tie.Need-slice-aggregate-read-full
 slice-aggregate-read-full c = search needs
@@ -20,10 +27,10 @@ list-requires : tie.Need-list-requires
 list-requires c κs = search needs
 
 array-share-prefix-text : tie.Need-array-share-prefix-text
-array-share-prefix-text c = listing-front _ _ (c .list .ensures .0) (c .list .ensures .1) .0
+array-share-prefix-text c = listed c .within
 
 slice-aggregate-write-all : tie.Need-slice-aggregate-write-all
-slice-aggregate-write-all c = listing-front _ _ (c .before .list .ensures .0) (c .before .list .ensures .1) .1
+slice-aggregate-write-all c = listed (c .before) .long
 
 write-all-requires : tie.Need-write-all-requires
 write-all-requires c κs = search needs

@@ -1,51 +1,65 @@
 -- `put_lines` puts the served weight, section by section, and the choice. Assumes nothing.
-use mathlib.Core.Path.{_≡_, _∙_}
-use Prim.Native.Nat.{_+_, _-_, _≤_}
+use mathlib.Core.Path.{_≡_}
+use mathlib.Core.List.{List}
+use Prim.Native.Nat.{ℕ, _+_, _-_, _≤_}
 use native.Mathlib.Omega.{arith}
 use lib.ListN.{length}
-use Rattle.lists.specs.Lists.{sum}
-use Rattle.picture.specs.Layout.{fieldIn, blocksMax}
-use Rattle.evidence.specs.Layout.{headWidths}
-use Rattle.evidence.specs.Checks.{headIn}
-use Rattle.listing.specs.ByEvidence.{evidenceLines}
-use Rattle.listing.proofs.Texts.{text-long, text-then}
-use Rattle.listing.proofs.Lines.{Telling, telling-begun, telling-next}
+use Rattle.picture.specs.Layout.{blocksMax}
+use Rattle.evidence.proofs.Places.{head-below, section-below}
+use Rattle.listing.proofs.Texts.{text-long}
+use Rattle.listing.proofs.Lines.{Telling, telling-begun, telling-next, telling-ended}
 use borrow.Author.Needs.{needs}
 use Rattle.listing.proofs.put_lines.Statement.{statement}
 use Rattle.listing.proofs.put_lines.Tie as tie
 
 abbrev Inv-loop : tie.InvT-loop
-Inv-loop text₀ ev n count at₀ i₀ text at i = (i ≤ count) × Telling n ev text₀ at₀ text at i
+Inv-loop text₀ ev n head at₀ i₀ text at i = (i ≤ head .count) × Telling n ev text₀ at₀ text at i
 
 abbrev μ-loop : tie.MeasureT-loop
-μ-loop text₀ ev n count at₀ i₀ text at i = count - i
+μ-loop text₀ ev n head at₀ i₀ text at i = head .count - i
 
--- the count of sections is the head's
-counted : (c : tie.At-loop Inv-loop μ-loop) → c .before .before .before .before .before .field .result ≡ headIn (c .before .before .before .before .before .before .before .before .args .ev .now) .count
-unfolding headIn headWidths fieldIn sum
-counted c = c .before .before .before .before .before .field .ensures
+-- ---- the places of the code, each from the next
 
--- and there are few
-few : (c : tie.At-loop Inv-loop μ-loop) → c .before .before .before .before .before .field .result ≤ blocksMax
-few c = rw (counted c) (c .before .before .before .before .before .before .before .before .pre .1)
+abbrev headed : tie.After-put-served-line Inv-loop μ-loop → tie.After-head-of Inv-loop μ-loop
+headed c = c .before .before
+
+abbrev start : tie.After-put-served-line Inv-loop μ-loop → tie.Start Inv-loop μ-loop
+start c = headed c .before .before .before
+
+abbrev served : tie.At-loop Inv-loop μ-loop → tie.After-put-served-line Inv-loop μ-loop
+served c = c .before .before .before
+
+abbrev ev : tie.At-loop Inv-loop μ-loop → List ℕ
+ev c = start (served c) .args .ev .now
+
+-- ---- what is known there
+
+-- there are few sections
+few : (c : tie.At-loop Inv-loop μ-loop) → headed (served c) .head-of .result .count ≤ blocksMax
+few c = let s = served c in rw (headed s .head-of .ensures) (start s .pre .1)
 
 -- after as many lines there is room for one more
 room : (c : tie.At-loop Inv-loop μ-loop) → c .loop .at + 43 ≤ length (c .loop .text)
-room c =
-    let b = c .before .before .before in
-    omega (arith, few c, c .loop .inv .0, c .loop .inv .1 .low, text-long (c .loop .inv .1 .texted), text-long (b .put-served-line .ensures), b .before .before .before .before .before .pre .2)
+room c = let t = c .loop .inv .1 in omega (arith, few c, t .low, text-long (t .texted))
 
-field-requires : tie.Need-field-requires Inv-loop μ-loop
-field-requires c κs = search needs
+-- ---- the answers
+
+head-of-requires : tie.Need-head-of-requires Inv-loop μ-loop
+head-of-requires c κs = search needs
 
 put-served-line-requires : tie.Need-put-served-line-requires Inv-loop μ-loop
-put-served-line-requires c κs = search needs
+put-served-line-requires c κs = rw (c .before .head-of .ensures) (omega (arith, head-below (c .before .before .before .before .args .ev .now)))
 
 loop-holds : tie.Need-loop-holds Inv-loop μ-loop
-loop-holds c = (omega arith, telling-begun _ _ (c .before .before .put-served-line .ensures))
+loop-holds c = let s = c .before .before in (omega arith, telling-begun _ _ (rw (headed s .head-of .ensures) at (s .put-served-line .ensures)))
+
+section-of-requires : tie.Need-section-of-requires Inv-loop μ-loop
+section-of-requires c κs = omega (arith, few (c .before .before .before))
 
 put-block-line-requires : tie.Need-put-block-line-requires Inv-loop μ-loop
-put-block-line-requires c κs = (c .before .before .before .before .before .before .before .before .before .before .pre .0, omega (arith, few (c .before .before)), room (c .before .before))
+put-block-line-requires c κs =
+    let l = c .before .before .before .before in
+    rw (c .section-of .ensures) (omega (arith, section-below (ev l) (start (served l) .args .n) (l .loop .i), room l))
 
 add-i : tie.Need-add-i Inv-loop μ-loop
 add-i c = search needs
@@ -54,22 +68,26 @@ loop-less : tie.Need-loop-less Inv-loop μ-loop
 loop-less c = search needs
 
 loop-again : tie.Need-loop-again Inv-loop μ-loop
-loop-again c = (omega arith, telling-next _ _ (c .before .before .before .before .before .loop .i) (c .before .before .before .before .before .loop .inv .1) (c .before .before .put-block-line .ensures))
+loop-again c =
+    let b = c .before .before in
+    let l = b .before .before .before .before .before in
+    (omega arith, telling-next _ _ (l .loop .i) (l .loop .inv .1) (rw (b .before .section-of .ensures) at (b .put-block-line .ensures)))
 
 put-choice-line-requires : tie.Need-put-choice-line-requires Inv-loop μ-loop
-put-choice-line-requires c κs = room (c .before .before)
+put-choice-line-requires c κs =
+    let l = c .before .before .before in
+    rw (headed (served l) .head-of .ensures) (omega (arith, head-below (ev l), room l))
 
 same-length : tie.Need-same-length Inv-loop μ-loop
-same-length c =
-    let l = c .before .before .before .before .before in
-    text-long (c .before .before .put-choice-line .ensures) ∙ text-long (l .loop .inv .1 .texted) ∙ text-long (l .before .before .before .put-served-line .ensures)
+same-length c = omega (arith, text-long (c .before .before .before .before .before .before .loop .inv .1 .texted))
 
 returns : tie.Need-returns Inv-loop μ-loop
-unfolding evidenceLines
 returns c =
-    let l = c .before .before .before .before .before in
-    let e : l .loop .i ≡ headIn (l .before .before .before .before .before .before .before .before .args .ev .now) .count = omega (arith, counted l, l .loop .inv .0) in
-    text-then (l .before .before .before .put-served-line .ensures) (text-then (rw e at (l .loop .inv .1 .texted)) (c .before .before .put-choice-line .ensures))
+    let k = c .before .before in
+    let l = k .before .before .before .before in
+    let s = served l in
+    let all : l .loop .i ≡ headed s .head-of .result .count = omega (arith, l .loop .inv .0, k .before .before .if1 .left) in
+    telling-ended _ _ (headed s .head-of .ensures) (s .put-served-line .ensures) (l .loop .inv .1) all (k .put-choice-line .ensures)
 
 pub put-lines-spec : {M : Type 1} → statement M
 put-lines-spec =
@@ -77,9 +95,10 @@ put-lines-spec =
     (tie.spec
     Inv-loop
     μ-loop
-    field-requires
+    head-of-requires
     put-served-line-requires
     loop-holds
+    section-of-requires
     put-block-line-requires
     add-i
     loop-less

@@ -24,7 +24,7 @@ same-length c = search needs
 
 returns : tie.Need-returns
 unfolding refusedLine refusedWord lineEnd
-returns c = text-then (c .before .before .before .before .before .before .before .put-item .ensures) (c .before .before .put-word .ensures)
+returns c = let w = c .before .before in text-then (w .before .before .before .before .before .put-item .ensures) (w .put-word .ensures)
 
 pub put-refused-line-spec : {M : Type 1} → statement M
 put-refused-line-spec =

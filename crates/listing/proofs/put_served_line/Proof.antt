@@ -1,43 +1,35 @@
 -- `put_served_line` puts the served weight. Assumes nothing.
 use native.Mathlib.Omega.{arith}
-use Rattle.lists.specs.Lists.{sum}
-use Rattle.picture.specs.Layout.{fieldIn}
-use Rattle.evidence.specs.Layout.{headWidths}
-use Rattle.evidence.specs.Checks.{headIn}
 use Rattle.listing.specs.Listing.{servedWord, lineEnd, servedLine}
 use Rattle.listing.proofs.Texts.{text-then}
-use Rattle.listing.proofs.Decimals.{item-ends, field-small}
+use Rattle.listing.proofs.Decimals.{item-ends}
 use borrow.Author.Needs.{needs}
 use Rattle.listing.proofs.put_served_line.Statement.{statement}
 use Rattle.listing.proofs.put_served_line.Tie as tie
-
-field-requires : tie.Need-field-requires
-field-requires c κs = search needs
 
 slice-aggregate-put-item : tie.Need-slice-aggregate-put-item
 slice-aggregate-put-item c = search needs
 
 put-item-requires : tie.Need-put-item-requires
-put-item-requires c κs = (field-small _ _ _ (c .before .before .field .ensures) (omega arith), search needs)
+put-item-requires c κs = search needs
 
 slice-aggregate-put-word : tie.Need-slice-aggregate-put-word
 slice-aggregate-put-word c = search needs
 
 put-word-requires : tie.Need-put-word-requires
-put-word-requires c κs = omega (arith, item-ends _ (c .before .before .before .before .put-item .ensures) (field-small _ _ _ (c .before .before .before .before .before .before .before .field .ensures) (omega arith)))
+put-word-requires c κs = omega (arith, item-ends _ (c .before .before .before .before .put-item .ensures) (omega arith))
 
 same-length : tie.Need-same-length
 same-length c = search needs
 
 returns : tie.Need-returns
-unfolding servedLine servedWord lineEnd headIn headWidths fieldIn sum
-returns c = rw (c .before .before .before .before .before .before .before .before .before .before .field .ensures) at (text-then (c .before .before .before .before .before .before .before .put-item .ensures) (c .before .before .put-word .ensures))
+unfolding servedLine servedWord lineEnd
+returns c = let w = c .before .before in text-then (w .before .before .before .before .before .put-item .ensures) (w .put-word .ensures)
 
 pub put-served-line-spec : {M : Type 1} → statement M
 put-served-line-spec =
     tie.close
     (tie.spec
-    field-requires
     slice-aggregate-put-item
     put-item-requires
     slice-aggregate-put-word
