@@ -9,8 +9,8 @@ use Rattle.lists.specs.Lists.{range, on, first, sum, lowest, equal, item, all, 
 use Rattle.lists.proofs.Tests.{all-at, equal-same}
 use Rattle.picture.specs.Layout.{headerWidths, slotWidths, endpointWidths, linkWidths, serviceLinkWidths, fieldIn, slotsAt, endpointsAt, linksAt, serviceLinksAt, endAt, sizeOf}
 use Rattle.picture.specs.Picture.{headerIn, slotAt, endpointAt, linkAt, rows, pictureWith, headerOf, pictureOf, slotOf, endpointOf}
-use Rattle.picture.specs.Answers.{headerValues, readingOf, reading, readingNumbers}
-use Rattle.picture.specs.Faults.{sizesRight, countsRight, slotFault, linkFault, serviceLinkFault, endRight, bodyFaults, faultsWith, pictureFault}
+use Rattle.picture.specs.Answers.{headerValues, readingNumbers}
+use Rattle.picture.specs.Faults.{sizesRight, countsRight, slotFault, linkFault, serviceLinkFault, endRight, bodyFaults, faultsWith, pictureFault, readingOf, reading}
 use Rattle.graph.specs.Rounds.{further, within, reachedIn, levels, depthIn, reachedBy, nodeIn, forest}
 use Rattle.network.specs.Words.{slotCount, endpointCount, blockCount, inBlock, isHeld, heldWithout, joins, weightOf}
 use Rattle.network.specs.Tests.{marks, served, cut, weightWhere, servedWeight, weighed, isCandidate, candidates, isNearHeld}
@@ -23,7 +23,7 @@ use Rattle.evidence.specs.Checks.{headIn, sectionIn, nodeAt, forestIn, firstFor
 use Rattle.evidence.specs.Calls.{lengthFor, chooseFault, chosenBytes, shownPart, shown}
 use Rattle.choose.specs.Answers.{choosingOf, choosing, choosingNumbers}
 use Rattle.checker.specs.Answers.{checkingOf, checking, checkingNumbers}
-use Rattle.acts.specs.Acts.{after, blockSlots, changes, cutFault, recoverableNear, nearAfter, nearFault, actFault, putStates, doneBytes, actBytes, actingOf, acting, actingNumbers}
+use Rattle.acts.specs.Acts.{after, blockSlots, changes, cutFault, recoverableNear, nearAfter, nearFault, actFault, stateAt, putStates, doneBytes, actBytes, actingOf, acting, actingNumbers}
 use Rattle.listing.specs.Decimal.{places, decimal}
 use Rattle.listing.specs.Listing.{servedWord, blockWord, lostWord, markWord, chooseWord, noneWord, refusedWord, lineEnd, item as listItem, servedLine, blockLine, choiceLine, refusedLine, planLines, listingOf, listing}
 use Rattle.examples.specs.Cases.{evidenceA, linesA, caseA, caseB, caseC, caseD, caseE, caseF, caseG, caseH, caseI, caseJ, caseK, caseM}
@@ -31,7 +31,7 @@ use Rattle.examples.specs.Table.{answer, Row, slotsOnly, freedA, table}
 
 -- its line names all that the examples compute through
 passes : Row → Bool
-unfolding bitAt number fieldAt range on first sum equal item all headerWidths slotWidths endpointWidths linkWidths serviceLinkWidths fieldIn slotsAt endpointsAt linksAt serviceLinksAt endAt sizeOf headerIn slotAt endpointAt linkAt rows pictureWith headerOf pictureOf slotOf endpointOf sizesRight countsRight slotFault linkFault serviceLinkFault endRight bodyFaults faultsWith pictureFault any further within reachedIn slotCount endpointCount blockCount inBlock isHeld heldWithout joins weightOf marks served cut weightWhere servedWeight weighed blockFault weighFault weightsOf weighingOf weighing lowest filter place flat levels depthIn reachedBy nodeIn forest isCandidate candidates digits bits bytesOf packed nodeOf headWidths nodeWidths sectionWidths forestBits sectionBits sectionAt evidenceBytes weighings least choice fieldsOf headFields nodeFields forestFields forestOf sectionFields evidenceFields evidenceOf headIn sectionIn nodeAt forestIn firstForest sectionForest isIn nodeRight linkRight forestRight formRight sectionFault verdictRight checkFault lengthFor chooseFault chosenBytes shownPart shown headerValues readingOf reading readingNumbers choosingOf choosing choosingNumbers checkingOf checking checkingNumbers actingOf acting actingNumbers bettered bettering sectionBytes forestAt freedA setBit putField isNearHeld after blockSlots changes cutFault recoverableNear nearAfter nearFault actFault putStates doneBytes actBytes evidenceA caseA caseB caseC caseD caseE caseF caseG caseH caseI caseJ caseK caseM places decimal servedWord blockWord lostWord markWord chooseWord noneWord refusedWord lineEnd listItem servedLine blockLine choiceLine refusedLine planLines listingOf listing linesA weightValues weighingNumbers answer slotsOnly
+unfolding bitAt number fieldAt range on first sum equal item all headerWidths slotWidths endpointWidths linkWidths serviceLinkWidths fieldIn slotsAt endpointsAt linksAt serviceLinksAt endAt sizeOf headerIn slotAt endpointAt linkAt rows pictureWith headerOf pictureOf slotOf endpointOf sizesRight countsRight slotFault linkFault serviceLinkFault endRight bodyFaults faultsWith pictureFault any further within reachedIn slotCount endpointCount blockCount inBlock isHeld heldWithout joins weightOf marks served cut weightWhere servedWeight weighed blockFault weighFault weightsOf weighingOf weighing lowest filter place flat levels depthIn reachedBy nodeIn forest isCandidate candidates digits bits bytesOf packed nodeOf headWidths nodeWidths sectionWidths forestBits sectionBits sectionAt evidenceBytes weighings least choice fieldsOf headFields nodeFields forestFields forestOf sectionFields evidenceFields evidenceOf headIn sectionIn nodeAt forestIn firstForest sectionForest isIn nodeRight linkRight forestRight formRight sectionFault verdictRight checkFault lengthFor chooseFault chosenBytes shownPart shown headerValues readingOf reading readingNumbers choosingOf choosing choosingNumbers checkingOf checking checkingNumbers actingOf acting actingNumbers bettered bettering sectionBytes forestAt freedA setBit putField isNearHeld after blockSlots changes cutFault recoverableNear nearAfter nearFault actFault stateAt putStates doneBytes actBytes evidenceA caseA caseB caseC caseD caseE caseF caseG caseH caseI caseJ caseK caseM places decimal servedWord blockWord lostWord markWord chooseWord noneWord refusedWord lineEnd listItem servedLine blockLine choiceLine refusedLine planLines listingOf listing linesA weightValues weighingNumbers answer slotsOnly
 passes r = equal (answer (r .question)) (r .says)
 
 tested : T (all passes table)

@@ -3,7 +3,8 @@
 use mathlib.Core.List.{List, [], _∷_, _++_}
 use Prim.Native.Nat.{ℕ}
 use lib.ListN.{set, take, drop, replicate}
-use Rattle.picture.specs.Answers.{reading, readingNumbers}
+use Rattle.picture.specs.Faults.{reading}
+use Rattle.picture.specs.Answers.{readingNumbers}
 use Rattle.weigh.specs.Weighing.{weighing, weighingNumbers}
 use Rattle.evidence.specs.Canonical.{evidenceOf}
 use Rattle.evidence.specs.Calls.{chosenBytes, shown}
