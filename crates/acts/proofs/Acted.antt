@@ -1,13 +1,13 @@
 -- An act on the bytes is the act on the picture: the bytes stay accepted, their header stays, and so does every bit but the states of
 -- the block. Assumes nothing.
-use mathlib.Core.Path.{_≡_, refl, sym, ap, ap₂, _∙_}
+use mathlib.Core.Path.{_≡_, refl, sym, ap, _∙_}
 use mathlib.Core.Bool.{Bool, true, false, _&&_, cond}
 use mathlib.Core.Logic.{_⊎_, inl, inr}
 use mathlib.Core.List.{List, [], _∷_, map}
-use Prim.Native.Nat.{ℕ, zero, suc, _+_, _*_, _≤_, _<_, zero-le, suc-le-suc}
+use Prim.Native.Nat.{ℕ, suc, _+_, _*_, _≤_, _<_}
 use native.Mathlib.Omega.{arith}
 use native.Mathlib.Decide.{decLt}
-use native.Mathlib.Nat.{add-zero, add-suc, suc-add, zero-add, mod-eq-of-lt, le-trans}
+use native.Mathlib.Nat.{zero-add, mod-eq-of-lt, le-trans}
 use native.Mathlib.Numerals.{add-one, one-add}
 use lib.Dec.{T, eqb, leb}
 use borrow.Author.Tests.{leb-true, leb-false}
@@ -16,7 +16,7 @@ use Rattle.bits.specs.Bits.{bitAt, fieldAt}
 use Rattle.bits.proofs.Reading.{fieldAt-lt}
 use Rattle.lists.specs.Lists.{range, item, sum}
 use Rattle.picture.specs.declared.Header.{Header}
-use Rattle.picture.specs.Layout.{Edition, edition1, headerWidths, slotWidths, endpointWidths, linkWidths, serviceLinkWidths, fieldIn, slotsAt, endpointsAt, linksAt, serviceLinksAt, endAt}
+use Rattle.picture.specs.Layout.{edition1, headerWidths, slotWidths, endpointWidths, linkWidths, serviceLinkWidths, fieldIn, slotsAt, endpointsAt, linksAt, serviceLinksAt, endAt}
 use Rattle.picture.specs.Picture.{Picture, Slot, headerIn, headerOf, slotAt, endpointAt, linkAt, rows, pictureWith, pictureOf, slotOf}
 use Rattle.picture.specs.Faults.{pictureFault}
 use Rattle.picture.proofs.Kept.{Kept}

@@ -8,7 +8,7 @@ use native.Mathlib.Decide.{decLt}
 use native.Mathlib.Nat.{not-suc-le-zero}
 use native.Mathlib.Numerals.{one-add}
 use lib.Dec.{T, eqb, leb, leb→le, le→leb, lit<}
-use lib.ListN.{length-map, List·getD-eq-default}
+use lib.ListN.{length-map}
 use Rattle.lists.specs.Lists.{range, item}
 use Rattle.lists.proofs.Tests.{and-T, T-and}
 use Rattle.lists.proofs.Ranges.{length-range, getD-map-range}

@@ -2,7 +2,6 @@
 use mathlib.Core.Path.{_≡_, refl, ap, subst}
 use mathlib.Core.List.{List}
 use Prim.Native.Nat.{ℕ, zero, suc, _≤_, zero-le}
-use lib.ListN.{length}
 use Rattle.lists.proofs.Faults.{first-zero}
 use Rattle.evidence.specs.Layout.{evidenceMax}
 use Rattle.evidence.specs.Calls.{lengthFor, chooseFault}

@@ -24,7 +24,6 @@ use Rattle.evidence.proofs.Lengths.{choose-takes, chosen-evidence}
 use Rattle.evidence.proofs.Passing.{check-passes, passes-check}
 use Rattle.evidence.proofs.Canonical.{own-passes}
 use Rattle.evidence.proofs.Unique.{same-verdict}
-use Rattle.choose.specs.Answers.{choosing}
 use Rattle.choose.proofs.Answering.{choosing-numbers}
 use Rattle.checker.specs.declared.Checking.the-variants.{Passed, Refused as Unpassed}
 use Rattle.checker.specs.Answers.{checkingOf, checking, checkingNumbers}

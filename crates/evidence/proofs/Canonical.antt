@@ -7,7 +7,7 @@ use native.Mathlib.Omega.{arith}
 use lib.ListN.{length, getD}
 use Rattle.graph.specs.Kept.{ForestKept}
 use Rattle.graph.proofs.Keeping.{forest-kept}
-use Rattle.picture.specs.Layout.{Edition, editionOf}
+use Rattle.picture.specs.Layout.{Edition}
 use Rattle.picture.specs.Picture.{Picture, pictureOf}
 use Rattle.picture.specs.Faults.{pictureFault}
 use Rattle.network.specs.Words.{slotCount, isHeld, heldWithout, joins}
@@ -15,13 +15,12 @@ use Rattle.network.specs.Tests.{candidates}
 use Rattle.network.proofs.Named.{Named, accepted-named}
 use Rattle.network.proofs.Weights.{mark-le}
 use Rattle.evidence.specs.Canonical.{choice, forestOf, evidenceOf}
-use Rattle.evidence.specs.Checks.{checkFault}
 use Rattle.evidence.proofs.Fields.{choice-fits, length-evidence}
 use Rattle.evidence.proofs.Held.{Reads, evidence-reads}
 use Rattle.network.proofs.Candidates.{candidate-below}
 use Rattle.evidence.proofs.Choosing.{choice-as-ruled}
 use Rattle.evidence.proofs.Judging.{right-served, right-numbers}
-use Rattle.evidence.proofs.Passing.{Section, Passes, passes-check}
+use Rattle.evidence.proofs.Passing.{Section, Passes}
 
 -- the forest of fewest links keeps the rules
 own-kept : {p : Picture} → Named p → (held : ℕ → Bool) → ForestKept (joins (p .links)) held (slotCount p) (forestOf p held)
@@ -56,6 +55,3 @@ own-passes bs z =
       sections = own-section n r;
       verdict = rw (r .verdict, r .block, r .loss) (choice-as-ruled n (candidate-below bs z));
     }
-
-pub canonical-passes : (bs : List ℕ) → pictureFault bs ≡ 0 → checkFault bs (evidenceOf bs) ≡ 0
-canonical-passes bs z = passes-check bs (evidenceOf bs) (own-passes bs z)

@@ -1,12 +1,11 @@
 -- The number that a check answers is that of the first rule that is broken, in the order of document 01: picture, 13, first forest 14,
 -- served weight 15, then 14 and 15 of each section, then 16. Assumes nothing.
-use mathlib.Core.Path.{_≡_, refl, sym, subst}
-use mathlib.Core.Bool.{Bool, true, false, not}
-use mathlib.Core.Logic.{_≢_}
-use mathlib.Core.List.{List, [], _∷_, _++_, map}
+use mathlib.Core.Path.{sym, subst}
+use mathlib.Core.Bool.{not}
+use mathlib.Core.List.{List, [], _∷_, map}
 use Prim.Native.Nat.{ℕ, zero, suc, _+_, _≤_, _<_}
 use native.Mathlib.Omega.{arith}
-use lib.Dec.{T, eqb, eqb→eq}
+use lib.Dec.{eqb, eqb→eq}
 use lib.ListN.{length, getD}
 use Rattle.lists.specs.Lists.{range, on, first}
 use Rattle.lists.specs.Rules.{Judged}

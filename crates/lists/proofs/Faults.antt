@@ -5,15 +5,12 @@ use mathlib.Core.List.{List, [], _∷_, _++_, map}
 use mathlib.Core.Logic.{_≢_}
 use Prim.Native.Nat.{ℕ, zero, suc, _+_, _<_, _≤_, zero-le, suc-le-suc}
 use native.Mathlib.Omega.{arith}
-use native.Mathlib.Nat.{zero-add, le-of-suc-le-suc, not-suc-le-zero}
+use native.Mathlib.Nat.{le-of-suc-le-suc, not-suc-le-zero}
 use native.Mathlib.Decide.{ℕ-discrete}
 use lib.Dec.{T}
 use lib.ListN.{length, getD}
-use Rattle.lists.specs.Lists.{range, on, first}
+use Rattle.lists.specs.Lists.{on, first}
 use Rattle.lists.specs.Rules.{Rule, Judged, kept, broken, passed, AllHold, none, more}
-use Rattle.lists.proofs.Tests.{not-not-T}
-use Rattle.lists.proofs.Ranges.{length-range}
-use Rattle.lists.proofs.Picks.{getD-range}
 
 -- ---- the number of a test
 
@@ -42,15 +39,6 @@ pub on-pass : (b : Bool) (k : ℕ) → T b → on b k ≡ k
 unfolding on
 on-pass true k t = refl
 on-pass false k t = absurd t
-
--- the same of a test that a rule holds
-pub on-right : (b : Bool) (k : ℕ) → on (not b) (suc k) ≡ 0 → T b
-on-right b k e = not-not-T b (on-zero (not b) k e)
-
-pub right-on : (b : Bool) (k : ℕ) → T b → on (not b) k ≡ 0
-unfolding on
-right-on true k t = refl
-right-on false k t = absurd t
 
 -- a bound that holds where the test does
 pub on-le : (b : Bool) (k m : ℕ) → (T b → k ≤ m) → on b k ≤ m
@@ -134,17 +122,6 @@ pub first-map-none : {A : Type 0} (f : A → ℕ) (d : A) (l : List A) → first
 first-map-none f d [] e i h = absurd (not-suc-le-zero h)
 first-map-none f d (x ∷ l) e zero h = first-zero (f x ∷ map f l) e 0
 first-map-none f d (x ∷ l) e (suc i) h = first-map-none f d l (sym (first-skip (f x) (map f l) (first-zero (f x ∷ map f l) e 0)) ∙ e) i (le-of-suc-le-suc h)
-
--- the same of a range, and the other way
-pub range-none : (f : ℕ → ℕ) (k : ℕ) → first (map f (range 0 k)) ≡ 0 → (i : ℕ) → i < k → f i ≡ 0
-range-none f k z i h =
-    let e : getD (range 0 k) i 0 ≡ i = getD-range 0 0 k i h ∙ zero-add i in
-    rw e at (first-map-none f 0 (range 0 k) z i (rw length-range h))
-
-pub none-range : (f : ℕ → ℕ) (k : ℕ) → ((i : ℕ) → i < k → f i ≡ 0) → first (map f (range 0 k)) ≡ 0
-none-range f k c =
-    sym
-    (scan-ended f 0 (range 0 k) k (record { before = λ i h. rw (getD-range 0 0 k i h ∙ zero-add i) (c i h) }) (omega (arith, length-range 0 k)))
 
 -- the element whose fault is the first
 pub record Faulty {A : Type 0} (f : A → ℕ) (d : A) (l : List A) : Type 0 where

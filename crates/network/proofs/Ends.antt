@@ -5,9 +5,9 @@ use mathlib.Core.Logic.{by-cases, ⊎-elim}
 use mathlib.Core.List.{List}
 use Prim.Native.Nat.{ℕ, suc, _+_, _≤_, _<_}
 use native.Mathlib.Omega.{arith}
-use native.Mathlib.Decide.{decLe, decLt, ℕ-discrete}
+use native.Mathlib.Decide.{decLe, ℕ-discrete}
 use lib.Dec.{T}
-use lib.ListN.{length, getD, set, replicate, length-set, length-replicate, getD-replicate, List·getD-eq-default}
+use lib.ListN.{length, getD, set, replicate, length-set, length-replicate}
 use lib.Seq.{getD-set-same, getD-set-other}
 use Rattle.lists.proofs.Picks.{item-inside, zeros-at}
 use Rattle.picture.specs.Picture.{Endpoint, Picture, endpointOf}

@@ -48,11 +48,6 @@ module _ (f : Link → Bool) where
       repeats-any r ∙ any-append xs ys
       ∙ sym (any-append xs (l ∷ ys) ∙ absorbed (any f xs) (f l) (any f ys) (λ h. subst T (any-append xs ys) (found-there (xs ++ ys) l t h)))
 
--- one copy more
-pub repeats-once : {ls ls′ : List Link} (xs : List Link) (l : Link) (ys : List Link) → ls ≡ xs ++ ys → ls′ ≡ xs ++ (l ∷ ys)
-    → T (joins (xs ++ ys) (l .from) (l .to)) → Repeats ls ls′
-repeats-once xs l ys e e′ t = subst₂ Repeats (sym e) (sym e′) (again xs l ys t same)
-
 -- so a repeated link joins nothing new
 pub repeats-join : {ls ls′ : List Link} → Repeats ls ls′ → joins ls ≡ joins ls′
 unfolding joins

@@ -9,8 +9,7 @@ use native.Mathlib.Decide.{decLt}
 use native.Mathlib.Nat.{not-suc-le-zero}
 use borrow.Author.Tests.{le-leb, lt-ltb}
 use lib.Dec.{T, leb, ltb, eqb, leb→le, ltb→lt, eqb·suc-zero}
-use lib.ListN.{length, List·getD-eq-default}
-use Rattle.lists.specs.Lists.{item}
+use lib.ListN.{length}
 use Rattle.lists.proofs.Tests.{T?, is-false, and-T}
 use Rattle.rows.specs.Rows.{marked, locationsMax}
 use Rattle.graph.specs.Held.{heldIn}

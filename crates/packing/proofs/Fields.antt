@@ -23,11 +23,6 @@ unfolding Fit
 fit-append [] ys a b = b
 fit-append (f ∷ xs) ys a b = (a .0, fit-append xs ys (a .1) b)
 
-pub append-fit : (xs ys : List Field) → Fit (xs ++ ys) → Fit xs × Fit ys
-unfolding Fit
-append-fit [] ys h = (tt, h)
-append-fit (f ∷ xs) ys h = let r : Fit xs × Fit ys = append-fit xs ys (h .1) in ((h .0, r .0), r .1)
-
 pub holds-append : (bs : List ℕ) (q : ℕ) (xs ys : List Field) → Holds bs q (xs ++ ys) → Holds bs q xs × Holds bs (q + span xs) ys
 unfolding Holds span
 holds-append bs q [] ys h = (tt, rw add-zero h)
@@ -53,12 +48,6 @@ unfolding flat Fit
 fit-flat d g [] h = tt
 fit-flat d g (r ∷ rs) h = fit-append (g r) (flat (map g rs)) (h 0 (suc-le-suc zero-le)) (fit-flat d g rs (λ i s. h (suc i) (suc-le-suc s)))
 
-pub flat-fit : {A : Type 0} (d : A) (g : A → List Field) (rs : List A) → Fit (flat (map g rs)) → (i : ℕ) → i < length rs → Fit (g (getD rs i d))
-unfolding flat
-flat-fit d g [] h i s = absurd (not-suc-le-zero s)
-flat-fit d g (r ∷ rs) h zero s = append-fit (g r) (flat (map g rs)) h .0
-flat-fit d g (r ∷ rs) h (suc i) s = flat-fit d g rs (append-fit (g r) (flat (map g rs)) h .1) i (le-of-suc-le-suc s)
-
 pub holds-groups : {A : Type 0} (d : A) (g : A → List Field) (bs : List ℕ) (q : ℕ) (rs : List A) → Holds bs q (flat (map g rs))
     → (i : ℕ) → i < length rs → Holds bs (q + span (flat (map g (take i rs)))) (g (getD rs i d))
 unfolding flat span
@@ -67,14 +56,6 @@ holds-groups d g bs q (r ∷ rs) h zero s = rw add-zero (holds-append bs q (g r)
 holds-groups d g bs q (r ∷ rs) h (suc i) s =
     rw (span-append (g r) (flat (map g (take i rs))), ← add-assoc)
     (holds-groups d g bs (q + span (g r)) rs (holds-append bs q (g r) (flat (map g rs)) h .1) i (le-of-suc-le-suc s))
-
-pub groups-holds : {A : Type 0} (d : A) (g : A → List Field) (bs : List ℕ) (q : ℕ) (rs : List A)
-    → ((i : ℕ) → i < length rs → Holds bs (q + span (flat (map g (take i rs)))) (g (getD rs i d))) → Holds bs q (flat (map g rs))
-unfolding flat span Holds
-groups-holds d g bs q [] h = tt
-groups-holds d g bs q (r ∷ rs) h =
-    append-holds bs q (g r) (flat (map g rs)) (rw add-zero at (h 0 (suc-le-suc zero-le)))
-    (groups-holds d g bs (q + span (g r)) rs (λ i s. rw (span-append (g r) (flat (map g (take i rs))), ← add-assoc) at (h (suc i) (suc-le-suc s))))
 
 -- ---- groups of equal width
 
@@ -90,7 +71,3 @@ start g w e rs i s = span-flat g w e (take i rs) ∙ ap (λ (n : ℕ). n * w) (l
 pub holds-flat : {A : Type 0} (d : A) (g : A → List Field) (w : ℕ) → ((r : A) → span (g r) ≡ w) → (bs : List ℕ) (q : ℕ) (rs : List A)
     → Holds bs q (flat (map g rs)) → (i : ℕ) → i < length rs → Holds bs (q + i * w) (g (getD rs i d))
 holds-flat d g w e bs q rs h i s = rw (start g w e rs i s) at (holds-groups d g bs q rs h i s)
-
-pub flat-holds : {A : Type 0} (d : A) (g : A → List Field) (w : ℕ) → ((r : A) → span (g r) ≡ w) → (bs : List ℕ) (q : ℕ) (rs : List A)
-    → ((i : ℕ) → i < length rs → Holds bs (q + i * w) (g (getD rs i d))) → Holds bs q (flat (map g rs))
-flat-holds d g w e bs q rs h = groups-holds d g bs q rs (λ i s. rw (start g w e rs i s) (h i s))

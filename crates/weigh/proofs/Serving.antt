@@ -1,7 +1,7 @@
 -- What the rows of a picture give: the walk over them reaches what chains reach, their common marks are service, and the sums over them
 -- are the weights of the specification. Assumes nothing.
-use mathlib.Core.Path.{_≡_, refl, sym, ap, ap₂, _∙_, subst, subst₂, fun-ext}
-use mathlib.Core.Bool.{Bool, true, false, not, _&&_, _||_, and-true}
+use mathlib.Core.Path.{_≡_, sym, ap, ap₂, _∙_, subst, subst₂, fun-ext}
+use mathlib.Core.Bool.{Bool, false, not, _&&_, _||_, and-true}
 use mathlib.Core.List.{List, [], map}
 use Prim.Native.Nat.{ℕ, zero, suc, _+_, _*_, _≤_}
 use native.Mathlib.Omega.{arith}

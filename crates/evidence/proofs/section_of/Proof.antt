@@ -1,5 +1,5 @@
 -- `section_of` reads what a section states. Assumes nothing.
-use mathlib.Core.Path.{_≡_, _∙_}
+use mathlib.Core.Path.{_∙_}
 use Prim.Native.Nat.{_^_, _<_}
 use native.Mathlib.Omega.{arith}
 use Rattle.evidence.proofs.Places.{section-small, block-at, loss-at, mark-at}
