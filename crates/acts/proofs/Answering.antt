@@ -17,7 +17,8 @@ use Rattle.acts.specs.declared.Act.{Act}
 use Rattle.acts.specs.declared.Acting.{Acting}
 use Rattle.acts.specs.declared.Acting.the-variants.{Done, Refused}
 use Rattle.acts.proofs.Judged.{done-bytes as done-writes, refused-bytes as refused-stays}
-use Rattle.acts.specs.Acts.{changes, cutFault, nearFault, actFault, doneBytes, actBytes, actingOf, acting, actingNumbers}
+use Rattle.acts.specs.Faults.{changes, cutFault, nearFault, actFault, actBytes, actingOf, acting}
+use Rattle.acts.specs.Acts.{doneBytes, actingNumbers}
 
 -- the last number of the list is what is told
 last-at : {z y : ℕ} → z ≡ y → z ≡ first (y ∷ [])

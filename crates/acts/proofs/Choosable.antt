@@ -10,7 +10,8 @@ use Rattle.picture.specs.Faults.{pictureFault}
 use Rattle.network.specs.Words.{isHeld, Candidate, Admissible}
 use Rattle.network.proofs.Candidates.{near-slot, candidate-below}
 use Rattle.acts.specs.declared.Act.the-variants.{Evict}
-use Rattle.acts.specs.Acts.{after, actFault}
+use Rattle.acts.specs.Faults.{actFault}
+use Rattle.acts.specs.Acts.{after}
 use Rattle.acts.specs.Rules.{Changes}
 use Rattle.acts.proofs.Judged.{doable-done}
 

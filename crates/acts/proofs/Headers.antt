@@ -20,7 +20,8 @@ use Rattle.network.specs.Words.{slotCount, blockCount, inBlock, isHeld}
 use Rattle.network.specs.Tests.{isNearHeld}
 use Rattle.network.proofs.Blocks.{block-fits, read-block-size, read-slots, read-blocks}
 use Rattle.acts.specs.declared.Act.{Act}
-use Rattle.acts.specs.Acts.{after, blockSlots, changes, recoverableNear}
+use Rattle.acts.specs.Faults.{changes}
+use Rattle.acts.specs.Acts.{after, blockSlots, recoverableNear}
 
 -- the block's last slot is at most n, which is a small number
 pub record Within (h : Header) (b : ℕ) : Type 0 where

@@ -25,7 +25,8 @@ use Rattle.network.proofs.Weights.{mark-protected, protected-mark}
 use Rattle.weigh.specs.Weighing.{blockFault}
 use Rattle.acts.specs.declared.Act.{Act}
 use Rattle.acts.specs.declared.Act.the-variants.{Evict, Reload, Free}
-use Rattle.acts.specs.Acts.{after, blockSlots, changes, cutFault, recoverableNear, nearAfter, nearFault, actFault, doneBytes, actBytes}
+use Rattle.acts.specs.Faults.{changes, cutFault, nearFault, actFault, actBytes}
+use Rattle.acts.specs.Acts.{after, blockSlots, recoverableNear, nearAfter, doneBytes}
 use Rattle.acts.specs.Rules.{Changes, Spares, Crowds, Leaves, actRules}
 use Rattle.acts.proofs.Slots.{in-block, block-in}
 

@@ -1,18 +1,15 @@
 -- The acts: evict, reload and free. Document 01, "Checking and evicting". Assumes nothing.
-use mathlib.Core.Bool.{Bool, not, _&&_, _||_, cond}
+use mathlib.Core.Bool.{Bool, _&&_, _||_, cond}
 use mathlib.Core.List.{List, [], _∷_, map}
 use Prim.Native.Nat.{ℕ, zero, suc, _+_, _*_, _≤_, _<_}
-use lib.Dec.{T, eqb, ltb}
+use lib.Dec.{T, eqb}
 use lib.ListN.{length}
 use Rattle.bits.specs.Bits.{putField}
-use Rattle.lists.specs.Lists.{range, on, first, sum, any, filter}
+use Rattle.lists.specs.Lists.{range, sum, filter}
 use Rattle.picture.specs.Layout.{Edition, editionOf, slotWidths, slotsAt}
 use Rattle.picture.specs.Picture.{Picture, Slot, pictureOf, slotOf}
-use Rattle.picture.specs.Faults.{pictureFault}
 use Rattle.network.specs.Words.{slotCount, inBlock}
-use Rattle.network.specs.Tests.{weighed}
 use Rattle.network.specs.Tests.{isNearHeld}
-use Rattle.weigh.specs.Weighing.{blockFault}
 use Rattle.acts.specs.declared.Act.{Act}
 use Rattle.acts.specs.declared.Act.the-variants.{Evict, Reload, Free}
 use Rattle.acts.specs.declared.Acting.{Acting}
@@ -29,16 +26,6 @@ after Free s = 2
 unfoldable pub blockSlots : Picture → ℕ → List ℕ
 blockSlots p b = range (b * p .blockSize + 1) (p .blockSize)
 
--- the act changes a slot: 11 where it does not
-unfoldable pub changes : Act → Picture → ℕ → Bool
-changes a p b = any (λ v. not (eqb (after a (slotOf p v .state)) (slotOf p v .state))) (blockSlots p b)
-
--- 10: evict or free cuts a protected endpoint. Free counts as a cut exactly where evict would
-unfoldable pub cutFault : Act → Picture → ℕ → ℕ
-cutFault Evict p b = on (eqb (weighed p b .mark) 1) 10
-cutFault Reload p b = 0
-cutFault Free p b = on (eqb (weighed p b .mark) 1) 10
-
 -- slot v is a near slot that a reload of block b adds to the held ones
 unfoldable pub recoverableNear : Picture → ℕ → ℕ → Bool
 recoverableNear p b v = inBlock p b v && (slotOf p v .near && eqb (slotOf p v .state) 1)
@@ -46,18 +33,6 @@ recoverableNear p b v = inBlock p b v && (slotOf p v .near && eqb (slotOf p v .s
 -- how many near slots are held after a reload of block b
 unfoldable pub nearAfter : Picture → ℕ → ℕ
 nearAfter p b = length (filter (λ v. isNearHeld p v || recoverableNear p b v) (range 1 (slotCount p)))
-
--- 12: reload adds a held near slot and more than κ are then held
-unfoldable pub nearFault : Act → Picture → ℕ → ℕ
-nearFault Evict p b = 0
-nearFault Reload p b = on (any (recoverableNear p b) (range 1 (slotCount p)) && ltb (p .nearLimit) (nearAfter p b)) 12
-nearFault Free p b = 0
-
--- the number of the first fault: "Acts are judged in the order picture, 8, 11, 10, 12"
-unfoldable pub actFault : Act → List ℕ → ℕ → ℕ
-actFault a bs b =
-    let p : Picture = pictureOf bs in
-    first (pictureFault bs ∷ blockFault p b ∷ on (not (changes a p b)) 11 ∷ cutFault a p b ∷ nearFault a p b ∷ [])
 
 -- the bit at which the slot with i slots before it starts, and with it its state
 unfoldable pub stateAt : Edition → ℕ → ℕ
@@ -82,16 +57,11 @@ doneBytes a bs b =
     let p : Picture = pictureOf bs in
     putStates (editionOf bs) (λ v. after a (slotOf p v .state)) bs (blockSlots p b)
 
--- the picture's bytes at exit; after a refusal all as they were
-unfoldable pub actBytes : Act → List ℕ → ℕ → List ℕ
-actBytes a bs b =
-    let done : List ℕ = doneBytes a bs b in
-    cond (eqb (actFault a bs b) 0) done bs
-
 -- the same on a picture's lists
 unfoldable pub slotAfter : Act → Picture → ℕ → ℕ → Slot
 slotAfter a p b v = record { state = cond (inBlock p b v) (after a (slotOf p v .state)) (slotOf p v .state); near = slotOf p v .near }
 
+-- the picture with the states of the block's slots after the act
 unfoldable pub actOn : Act → Picture → ℕ → Picture
 actOn a p b =
     record {
@@ -102,14 +72,6 @@ actOn a p b =
       links = p .links;
       serviceLinks = p .serviceLinks;
     }
-
--- 0 is done; any other number is a refusal
-unfoldable pub actingOf : ℕ → Acting
-actingOf zero = Done
-actingOf (suc k) = Refused (suc k)
-
-unfoldable pub acting : Act → List ℕ → ℕ → Acting
-acting a bs b = actingOf (actFault a bs b)
 
 -- 01's number for each case
 unfoldable pub actingNumbers : Acting → List ℕ

@@ -1,2 +1,2 @@
--- What the calls for C answer.
+-- To be believed: what the calls for C answer.
 pub mod Answers

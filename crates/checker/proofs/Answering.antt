@@ -17,7 +17,8 @@ use Rattle.network.specs.Words.{slotCount, isHeld}
 use Rattle.network.specs.Tests.{servedWeight, candidates}
 use Rattle.network.proofs.Weights.{weighed-block}
 use Rattle.evidence.specs.Canonical.{noCost, weighings}
-use Rattle.evidence.specs.Checks.{headIn, sectionIn, firstForest, forestRight, formRight, sectionFault, verdictRight, checkFault}
+use Rattle.evidence.specs.Contents.{headIn, sectionIn, firstForest}
+use Rattle.evidence.specs.Checks.{forestRight, formRight, sectionFault, verdictRight, checkFault}
 use Rattle.evidence.proofs.Judging.{numbersTest, test-numbers, right-form}
 use Rattle.evidence.proofs.Weighings.{weighings-length, weighing-at}
 use Rattle.checker.specs.declared.Checking.{Checking}

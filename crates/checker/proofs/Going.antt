@@ -32,7 +32,8 @@ use Rattle.weigh.specs.Sums.{Small, Meets, LostBetween}
 use Rattle.network.proofs.Blocks.{read-slots, read-block-size, read-endpoints, read-block}
 use Rattle.weigh.proofs.Serving.{serving, sums-ready, served-met, loss-met, mark-met}
 use Rattle.evidence.specs.Layout.{forestAt}
-use Rattle.evidence.specs.Checks.{sectionIn, forestIn, nodeRight, formRight}
+use Rattle.evidence.specs.Contents.{sectionIn, forestIn}
+use Rattle.evidence.specs.Checks.{nodeRight, formRight}
 use Rattle.evidence.specs.Rules.{Form}
 use Rattle.evidence.proofs.Fields.{candidates-few}
 use Rattle.evidence.proofs.Forests.{test-in, in-test}

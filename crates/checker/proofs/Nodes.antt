@@ -17,7 +17,8 @@ use Rattle.graph.proofs.Keeping.{node-above}
 use Rattle.picture.specs.Layout.{edition1}
 use Rattle.picture.proofs.Starts.{field-second, length-rows, item-row}
 use Rattle.evidence.specs.Layout.{nodeWidths}
-use Rattle.evidence.specs.Checks.{nodeAt, forestIn, isIn, nodeRight}
+use Rattle.evidence.specs.Contents.{nodeAt, forestIn}
+use Rattle.evidence.specs.Checks.{isIn, nodeRight}
 use Rattle.checker.specs.Forests.{nodeFrom}
 
 -- ---- the nodes

@@ -21,7 +21,8 @@ use Rattle.network.specs.Rows.{SlotRowsOf}
 use Rattle.network.proofs.Weights.{weighed-block}
 use Rattle.weigh.proofs.Serving.{left-held}
 use Rattle.evidence.specs.Layout.{forestAt}
-use Rattle.evidence.specs.Checks.{sectionIn, forestIn, firstForest, sectionForest, forestRight, sectionFault}
+use Rattle.evidence.specs.Contents.{sectionIn, forestIn, firstForest, sectionForest}
+use Rattle.evidence.specs.Checks.{forestRight, sectionFault}
 use Rattle.evidence.specs.Rules.{Form}
 use Rattle.evidence.proofs.Forests.{right-kept, kept-right}
 use Rattle.evidence.proofs.Weighings.{weighing-at}

@@ -12,7 +12,8 @@ use Rattle.picture.specs.Layout.{edition1, blocksMax}
 use Rattle.picture.specs.Picture.{pictureOf}
 use Rattle.network.specs.Words.{slotCount}
 use Rattle.network.specs.Tests.{candidates}
-use Rattle.evidence.specs.Checks.{headIn, sectionIn, checkFault}
+use Rattle.evidence.specs.Contents.{headIn, sectionIn}
+use Rattle.evidence.specs.Checks.{checkFault}
 use Rattle.evidence.proofs.Fields.{candidates-few}
 use Rattle.evidence.proofs.Passing.{Passes, check-passes}
 use Rattle.evidence.proofs.Showing.{namedAt}

@@ -18,7 +18,8 @@ use Rattle.picture.specs.Layout.{edition1}
 use Rattle.evidence.specs.declared.Head.{Head}
 use Rattle.evidence.specs.declared.Choice.{Choice}
 use Rattle.evidence.specs.Canonical.{noChoice, noCost, bettered, least}
-use Rattle.evidence.specs.Checks.{headIn, sectionIn, verdictRight}
+use Rattle.evidence.specs.Contents.{headIn, sectionIn}
+use Rattle.evidence.specs.Checks.{verdictRight}
 use Rattle.evidence.proofs.Least.{least-none-yet, least-more}
 use Rattle.checker.specs.Verdict.{stated}
 

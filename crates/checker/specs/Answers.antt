@@ -10,6 +10,7 @@ unfoldable pub checkingOf : ℕ → Checking
 checkingOf zero = Passed
 checkingOf (suc k) = Refused (suc k)
 
+-- what a check of any evidence against any picture answers
 unfoldable pub checking : List ℕ → List ℕ → Checking
 checking bs ev = checkingOf (checkFault bs ev)
 

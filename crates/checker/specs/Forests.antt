@@ -16,7 +16,8 @@ use Rattle.network.specs.Tests.{servedWeight, candidates}
 use Rattle.network.specs.Rows.{BlockRow}
 use Rattle.evidence.specs.Layout.{nodeWidths}
 use Rattle.evidence.specs.Canonical.{weighings}
-use Rattle.evidence.specs.Checks.{headIn, sectionIn, nodeAt, forestRight, firstForest, sectionFault}
+use Rattle.evidence.specs.Contents.{headIn, sectionIn, nodeAt, firstForest}
+use Rattle.evidence.specs.Checks.{forestRight, sectionFault}
 
 -- node v of the forest that starts at bit q
 unfoldable pub nodeFrom : List ℕ → ℕ → ℕ → Node

@@ -7,7 +7,7 @@ use lib.ListN.{length, getD}
 use Rattle.lists.specs.Lists.{range, all}
 use Rattle.picture.specs.Layout.{edition1}
 use Rattle.evidence.specs.Layout.{evidenceBytes}
-use Rattle.evidence.specs.Checks.{headIn, sectionIn}
+use Rattle.evidence.specs.Contents.{headIn, sectionIn}
 
 -- 13 of the head, for so many candidates
 unfoldable pub headTest : ℕ → List ℕ → ℕ → Bool

@@ -5,7 +5,7 @@ use lib.Dec.{eqb}
 use Rattle.lists.specs.Lists.{range, place}
 use Rattle.picture.specs.Layout.{edition1}
 use Rattle.network.specs.declared.Cost.{Cost}
-use Rattle.evidence.specs.Checks.{sectionIn}
+use Rattle.evidence.specs.Contents.{sectionIn}
 
 -- what the sections state, in their order
 unfoldable pub stated : ℕ → List ℕ → ℕ → List Cost

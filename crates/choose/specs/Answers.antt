@@ -10,6 +10,7 @@ unfoldable pub choosingOf : ℕ → ℕ → Choosing
 choosingOf zero size = Length size
 choosingOf (suc k) size = Refused (suc k)
 
+-- what choosing answers for any picture and any buffer
 unfoldable pub choosing : List ℕ → List ℕ → Choosing
 choosing bs buf = choosingOf (chooseFault bs buf) (lengthFor bs)
 

@@ -9,14 +9,15 @@ use Rattle.picture.specs.Picture.{Picture, pictureOf}
 use Rattle.picture.specs.Faults.{pictureFault}
 use Rattle.network.specs.Words.{isHeld, ServedWeight, Loss, CutsProtected, Candidate, Admissible}
 use Rattle.evidence.specs.Canonical.{evidenceOf}
-use Rattle.evidence.specs.Checks.{headIn}
+use Rattle.evidence.specs.Contents.{headIn}
 use Rattle.evidence.specs.Calls.{lengthFor, chosenBytes}
 use Rattle.choose.specs.Answers.{choosing, choosingNumbers}
 use Rattle.checker.specs.declared.Checking.the-variants.{Refused as Unpassed}
 use Rattle.checker.specs.Answers.{checking, checkingNumbers}
 use Rattle.acts.specs.declared.Act.the-variants.{Evict}
 use Rattle.acts.specs.declared.Acting.the-variants.{Refused as Undone}
-use Rattle.acts.specs.Acts.{acting, actingNumbers, actBytes}
+use Rattle.acts.specs.Faults.{acting, actBytes}
+use Rattle.acts.specs.Acts.{actingNumbers}
 
 -- ---- what the calls answer
 

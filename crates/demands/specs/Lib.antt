@@ -1,2 +1,2 @@
--- The owner's third demand: what must be believed, over the words of `network` and the calls' own definitions.
+-- To be believed: the owner's third demand, over the words of `network` and the definitions that the calls' contracts cite.
 pub mod Demands

@@ -23,7 +23,7 @@ use Rattle.network.specs.Tests.{weighed, servedWeight, candidates}
 use Rattle.network.proofs.Weights.{weighed-block}
 use Rattle.evidence.specs.Layout.{headWidths, nodeWidths, sectionWidths, sectionBits, sectionAt, forestAt}
 use Rattle.evidence.specs.Canonical.{noCost, weighings, least, fieldsOf, headFields, nodeFields, forestFields, forestOf, sectionFields, evidenceFields, evidenceOf}
-use Rattle.evidence.specs.Checks.{headIn, sectionIn, nodeAt, forestIn, firstForest, sectionForest}
+use Rattle.evidence.specs.Contents.{headIn, sectionIn, nodeAt, forestIn, firstForest, sectionForest}
 use Rattle.evidence.proofs.Weighings.{weighings-length, weighing-at}
 use Rattle.evidence.proofs.Fields.{noNode, head-of, nodes-of, sections-of, node-span, head-span, length-forest-of, forest-span, section-span, evidence-fits}
 

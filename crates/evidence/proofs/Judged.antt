@@ -20,7 +20,8 @@ use Rattle.network.specs.declared.Cost.{Cost}
 use Rattle.network.specs.Tests.{weighed, servedWeight, candidates}
 use Rattle.network.proofs.Named.{Named, accepted-named}
 use Rattle.evidence.specs.Canonical.{weighings}
-use Rattle.evidence.specs.Checks.{headIn, sectionIn, firstForest, forestRight, formRight, sectionFault, verdictRight, checkFault}
+use Rattle.evidence.specs.Contents.{headIn, sectionIn, firstForest}
+use Rattle.evidence.specs.Checks.{forestRight, formRight, sectionFault, verdictRight, checkFault}
 use Rattle.evidence.specs.Rules.{sectionRules, evidenceRulesWith, checkRules}
 use Rattle.evidence.proofs.Forests.{right-kept, kept-right}
 use Rattle.network.proofs.Candidates.{candidate-below}

@@ -22,7 +22,8 @@ use Rattle.network.proofs.Weights.{served-weight, loss-weight, mark-protected, 
 use Rattle.evidence.specs.Layout.{evidenceBytes}
 use Rattle.evidence.specs.declared.Choice.{Choice}
 use Rattle.evidence.specs.Canonical.{noCost, least, weighings}
-use Rattle.evidence.specs.Checks.{headIn, sectionIn, sectionForest, forestRight, formRight, verdictRight}
+use Rattle.evidence.specs.Contents.{headIn, sectionIn, sectionForest}
+use Rattle.evidence.specs.Checks.{forestRight, formRight, verdictRight}
 use Rattle.evidence.specs.Rules.{Form, Numbers, Verdict, chosen, none}
 use Rattle.lists.proofs.Every.{all-range, range-all}
 use Rattle.evidence.proofs.Least.{Chosen, Nothing, least-right, least-none, none-least}

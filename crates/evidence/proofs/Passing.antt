@@ -16,7 +16,8 @@ use Rattle.picture.specs.Rules.{rules}
 use Rattle.picture.proofs.Accepted.{judged, numbered}
 use Rattle.network.specs.Words.{slotCount, isHeld, joins, ServedWeight}
 use Rattle.network.specs.Tests.{candidates}
-use Rattle.evidence.specs.Checks.{headIn, firstForest, checkFault}
+use Rattle.evidence.specs.Contents.{headIn, firstForest}
+use Rattle.evidence.specs.Checks.{checkFault}
 use Rattle.evidence.specs.Rules.{Form, SectionForest, Numbers, Verdict, sectionRules, evidenceRulesWith, checkRules}
 use Rattle.evidence.proofs.Judged.{check-judged, sections-numbered}
 

@@ -10,7 +10,7 @@ use Rattle.lists.specs.Lists.{sum}
 use Rattle.rows.specs.Rows.{slotsMax}
 use Rattle.picture.specs.Layout.{edition1, fieldIn}
 use Rattle.evidence.specs.Layout.{headWidths, nodeWidths, sectionWidths, forestBits, sectionBits, sectionBytes, sectionAt, forestAt}
-use Rattle.evidence.specs.Checks.{headIn, sectionIn}
+use Rattle.evidence.specs.Contents.{headIn, sectionIn}
 
 -- the numbers of edition 1, as the code has them
 pub section-bits : (n : ℕ) → sectionBits edition1 n ≡ 40 + n * 16

@@ -24,7 +24,8 @@ use Rattle.network.specs.Tests.{candidates}
 use Rattle.network.proofs.Candidates.{candidate-below, candidates-all}
 use Rattle.evidence.specs.declared.Part.{Part}
 use Rattle.evidence.specs.Layout.{sectionWidths, sectionBytes, sectionAt, evidenceBytes}
-use Rattle.evidence.specs.Checks.{headIn, sectionIn, checkFault}
+use Rattle.evidence.specs.Contents.{headIn, sectionIn}
+use Rattle.evidence.specs.Checks.{checkFault}
 use Rattle.evidence.specs.Rules.{Verdict, chosen, none}
 use Rattle.evidence.specs.Calls.{shownPart, shown, SectionOf}
 use Rattle.evidence.proofs.Places.{section-bytes, section-at}

@@ -4,7 +4,7 @@ use mathlib.Core.List.{List}
 use Prim.Native.Nat.{ℕ}
 use native.Mathlib.Omega.{arith}
 use Rattle.picture.specs.Picture.{Picture}
-use Rattle.evidence.specs.Checks.{headIn}
+use Rattle.evidence.specs.Contents.{headIn}
 use Rattle.evidence.specs.Rules.{Verdict, chosen, none}
 use Rattle.evidence.proofs.Passing.{Passes}
 

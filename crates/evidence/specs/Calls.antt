@@ -15,7 +15,8 @@ use Rattle.network.specs.Tests.{candidates}
 use Rattle.evidence.specs.declared.Part.{Part}
 use Rattle.evidence.specs.Layout.{sectionAt, sectionBytes, evidenceBytes}
 use Rattle.evidence.specs.Canonical.{evidenceOf}
-use Rattle.evidence.specs.Checks.{headIn, checkFault}
+use Rattle.evidence.specs.Contents.{headIn}
+use Rattle.evidence.specs.Checks.{checkFault}
 
 -- the length of a picture's evidence
 unfoldable pub lengthFor : List ℕ → ℕ
@@ -41,6 +42,7 @@ shownPart bs ev =
     let section : Part = record { start = sectionAt e (slotCount p) i / 8; size = sectionBytes e (slotCount p) } in
     cond (eqb (checkFault bs ev) 0 && eqb (headIn ev .verdict) 1) section (record { start = 0; size = 0 })
 
+-- and that part of the evidence
 unfoldable pub shown : List ℕ → List ℕ → List ℕ
 shown bs ev = take (shownPart bs ev .size) (drop (shownPart bs ev .start) ev)
 

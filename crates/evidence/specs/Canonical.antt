@@ -16,6 +16,10 @@ use Rattle.network.specs.Tests.{weighed, servedWeight, candidates}
 use Rattle.evidence.specs.declared.Choice.{Choice}
 use Rattle.evidence.specs.Layout.{headWidths, nodeWidths, sectionWidths}
 
+-- a cost that no list has, for a place past its end
+abbrev pub noCost : Cost
+noCost = record { block = 0; loss = 0; mark = 0 }
+
 -- the candidates as they weigh, in rising order
 unfoldable pub weighings : Picture → List Cost
 weighings p = map (weighed p) (candidates p)
@@ -40,10 +44,7 @@ bettering c (w ∷ ws) = bettering (bettered c w) ws
 unfoldable pub least : List Cost → Choice
 least ws = bettering noChoice ws
 
--- a cost that no list has, for a place past its end
-abbrev pub noCost : Cost
-noCost = record { block = 0; loss = 0; mark = 0 }
-
+-- the choice of a picture, among its candidates
 unfoldable pub choice : Picture → Choice
 choice p = least (weighings p)
 
@@ -55,9 +56,11 @@ fieldsOf [] vs = []
 fieldsOf (w ∷ ws) [] = []
 fieldsOf (w ∷ ws) (v ∷ vs) = record { width = w; value = v } ∷ fieldsOf ws vs
 
+-- the head: edition, verdict, block, candidate count, served weight, loss
 unfoldable pub headFields : Edition → Choice → ℕ → ℕ → List Field
 headFields e c count served = fieldsOf headWidths (e .number ∷ c .verdict ∷ c .block ∷ count ∷ served ∷ c .loss ∷ [])
 
+-- a slot's parent and depth, and those of all slots
 unfoldable pub nodeFields : Edition → Node → List Field
 nodeFields e x = fieldsOf (nodeWidths e) (x .parent ∷ x .depth ∷ [])
 
@@ -72,6 +75,7 @@ forestOf p held = forest (joins (p .links)) held (slotCount p)
 unfoldable pub sectionFields : Edition → Picture → Cost → List Field
 sectionFields e p w = fieldsOf sectionWidths (w .block ∷ w .loss ∷ w .mark ∷ []) ++ forestFields e (forestOf p (heldWithout p (w .block)))
 
+-- the head, the first forest, and a section for each candidate
 unfoldable pub evidenceFields : Edition → Picture → List Field
 evidenceFields e p =
     let ws : List Cost = weighings p in

@@ -1,57 +1,23 @@
 -- What a check finds in evidence from anywhere: the number of the first fault, in the order of document 01. Assumes nothing.
 use mathlib.Core.Bool.{Bool, not, _&&_, _||_, cond}
 use mathlib.Core.List.{List, [], _∷_, map}
-use Prim.Native.Nat.{ℕ, suc, _+_}
+use Prim.Native.Nat.{ℕ, _+_}
 use lib.Dec.{eqb, leb}
 use lib.ListN.{length, getD}
-use Rattle.lists.specs.Lists.{range, on, first, sum, all, any}
+use Rattle.lists.specs.Lists.{range, on, first, all, any}
 use Rattle.graph.specs.declared.Node.{Node}
 use Rattle.graph.specs.Kept.{nodeOf}
 use Rattle.picture.specs.declared.Link.{Link}
-use Rattle.picture.specs.Layout.{Edition, editionOf, fieldIn}
-use Rattle.picture.specs.Picture.{Picture, pictureOf, rows}
+use Rattle.picture.specs.Layout.{Edition, editionOf}
+use Rattle.picture.specs.Picture.{Picture, pictureOf}
 use Rattle.picture.specs.Faults.{pictureFault}
 use Rattle.network.specs.Words.{slotCount, isHeld, heldWithout, joins}
 use Rattle.network.specs.declared.Cost.{Cost}
 use Rattle.network.specs.Tests.{servedWeight, candidates}
-use Rattle.evidence.specs.Layout.{headWidths, nodeWidths, sectionWidths, sectionAt, forestAt, evidenceBytes}
+use Rattle.evidence.specs.Layout.{evidenceBytes}
 use Rattle.evidence.specs.declared.Choice.{Choice}
-use Rattle.evidence.specs.declared.Head.{Head}
+use Rattle.evidence.specs.Contents.{headIn, sectionIn, firstForest, sectionForest}
 use Rattle.evidence.specs.Canonical.{noCost, weighings, least}
-
--- ---- what the bytes say
-
--- the head: edition, verdict, block, candidate count, served weight, loss
-unfoldable pub headIn : List ℕ → Head
-headIn ev =
-    record {
-      edition = fieldIn ev headWidths 0 0;
-      verdict = fieldIn ev headWidths 0 1;
-      block = fieldIn ev headWidths 0 2;
-      count = fieldIn ev headWidths 0 3;
-      served = fieldIn ev headWidths 0 4;
-      loss = fieldIn ev headWidths 0 5;
-    }
-
--- what section i states: its block, loss and mark
-unfoldable pub sectionIn : Edition → ℕ → List ℕ → ℕ → Cost
-sectionIn e n ev i =
-    let at : ℕ = sectionAt e n i in
-    record { block = fieldIn ev sectionWidths at 0; loss = fieldIn ev sectionWidths at 1; mark = fieldIn ev sectionWidths at 2 }
-
--- the node from bit q on, and the n nodes from there on
-unfoldable pub nodeAt : Edition → List ℕ → ℕ → Node
-nodeAt e ev q = record { parent = fieldIn ev (nodeWidths e) q 0; depth = fieldIn ev (nodeWidths e) q 1 }
-
-unfoldable pub forestIn : Edition → ℕ → List ℕ → ℕ → List Node
-forestIn e n ev q = rows (nodeAt e ev) q (sum (nodeWidths e)) n
-
--- the first forest, and that of section i
-unfoldable pub firstForest : Edition → ℕ → List ℕ → List Node
-firstForest e n ev = forestIn e n ev (forestAt e n 0)
-
-unfoldable pub sectionForest : Edition → ℕ → List ℕ → ℕ → List Node
-sectionForest e n ev i = forestIn e n ev (forestAt e n (suc i))
 
 -- ---- 14: the rules of a forest
 
@@ -70,6 +36,7 @@ nodeRight linked held xs v =
 unfoldable pub linkRight : (ℕ → Bool) → List Node → Link → Bool
 linkRight held xs l = not (isIn xs (l .from) && (not (isIn xs (l .to)) && held (l .to)))
 
+-- every node and every link keeps its rule
 unfoldable pub forestRight : Picture → (ℕ → Bool) → List Node → Bool
 forestRight p held xs = all (nodeRight (joins (p .links)) held xs) (range 1 (slotCount p)) && all (linkRight held xs) (p .links)
 

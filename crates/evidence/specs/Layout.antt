@@ -20,6 +20,7 @@ sectionWidths = 8 ∷ 24 ∷ 8 ∷ []
 unfoldable pub forestBits : Edition → ℕ → ℕ
 forestBits e n = n * sum (nodeWidths e)
 
+-- a section: what it has before its forest, and the forest
 unfoldable pub sectionBits : Edition → ℕ → ℕ
 sectionBits e n = sum sectionWidths + forestBits e n
 

@@ -11,7 +11,7 @@ use Rattle.picture.specs.Rules.{rules}
 use Rattle.network.specs.Words.{slotCount, isHeld, heldWithout, joins, ServedWeight, Loss, CutsProtected, Candidate, Admissible}
 use Rattle.network.specs.Tests.{candidates}
 use Rattle.evidence.specs.Layout.{evidenceBytes}
-use Rattle.evidence.specs.Checks.{headIn, sectionIn, firstForest, sectionForest}
+use Rattle.evidence.specs.Contents.{headIn, sectionIn, firstForest, sectionForest}
 
 -- 13: "evidence length or edition wrong, C not the candidate count, a section's block not the next candidate, verdict or mark over 1"
 pub record Form (e : Edition) (p : Picture) (ev : List ℕ) : Type 0 where
@@ -56,6 +56,7 @@ module _ (e : Edition) (p : Picture) (ev : List ℕ) where
       ∷ record { number = 15; holds = Numbers e p ev i (getD (candidates p) i 0) }
       ∷ sectionRules (suc i) k
 
+  -- those of the whole evidence
   unfoldable pub evidenceRulesWith : List Rule
   evidenceRulesWith =
       record { number = 13; holds = Form e p ev }

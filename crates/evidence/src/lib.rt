@@ -6,7 +6,7 @@ ghost use Rattle.rows.specs.Rows.{slotsMax};
 ghost use Rattle.picture.specs.Layout.{edition1};
 ghost use Rattle.evidence.specs.Layout.{sectionBits, sectionBytes, sectionAt, forestAt};
 ghost use Rattle.evidence.specs.Canonical.{bettered};
-ghost use Rattle.evidence.specs.Checks.{headIn, sectionIn};
+ghost use Rattle.evidence.specs.Contents.{headIn, sectionIn};
 use network::Cost;
 use picture::BLOCKS_MAX;
 use picture::SLOTS_MAX;

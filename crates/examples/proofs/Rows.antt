@@ -19,11 +19,13 @@ use Rattle.packing.specs.Packing.{digits, bits, bytesOf, packed}
 use Rattle.graph.specs.Kept.{nodeOf}
 use Rattle.evidence.specs.Layout.{headWidths, nodeWidths, sectionWidths, forestBits, sectionBits, sectionBytes, sectionAt, forestAt, evidenceBytes}
 use Rattle.evidence.specs.Canonical.{weighings, bettered, bettering, least, choice, fieldsOf, headFields, nodeFields, forestFields, forestOf, sectionFields, evidenceFields, evidenceOf}
-use Rattle.evidence.specs.Checks.{headIn, sectionIn, nodeAt, forestIn, firstForest, sectionForest, isIn, nodeRight, linkRight, forestRight, formRight, sectionFault, verdictRight, checkFault}
+use Rattle.evidence.specs.Contents.{headIn, sectionIn, nodeAt, forestIn, firstForest, sectionForest}
+use Rattle.evidence.specs.Checks.{isIn, nodeRight, linkRight, forestRight, formRight, sectionFault, verdictRight, checkFault}
 use Rattle.evidence.specs.Calls.{lengthFor, chooseFault, chosenBytes, shownPart, shown}
 use Rattle.choose.specs.Answers.{choosingOf, choosing, choosingNumbers}
 use Rattle.checker.specs.Answers.{checkingOf, checking, checkingNumbers}
-use Rattle.acts.specs.Acts.{after, blockSlots, changes, cutFault, recoverableNear, nearAfter, nearFault, actFault, stateAt, putStates, doneBytes, actBytes, actingOf, acting, actingNumbers}
+use Rattle.acts.specs.Faults.{changes, cutFault, nearFault, actFault, actBytes, actingOf, acting}
+use Rattle.acts.specs.Acts.{after, blockSlots, recoverableNear, nearAfter, stateAt, putStates, doneBytes, actingNumbers}
 use Rattle.listing.specs.Decimal.{places, decimal}
 use Rattle.listing.specs.Listing.{servedWord, blockWord, lostWord, markWord, chooseWord, noneWord, refusedWord, lineEnd, item as listItem, servedLine, blockLine, choiceLine, refusedLine, planLines, listingOf, listing}
 use Rattle.examples.specs.Cases.{evidenceA, linesA, caseA, caseB, caseC, caseD, caseE, caseF, caseG, caseH, caseI, caseJ, caseK, caseM}

@@ -1,3 +1,3 @@
--- The worked examples of document 01.
+-- To be believed: the worked examples of document 01, and what each row of the table asks.
 pub mod Cases
 pub mod Table

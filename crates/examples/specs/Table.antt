@@ -12,7 +12,8 @@ use Rattle.choose.specs.Answers.{choosing, choosingNumbers}
 use Rattle.checker.specs.Answers.{checking, checkingNumbers}
 use Rattle.acts.specs.declared.Act.{Act}
 use Rattle.acts.specs.declared.Act.the-variants.{Evict, Reload, Free}
-use Rattle.acts.specs.Acts.{acting, actingNumbers, actBytes}
+use Rattle.acts.specs.Faults.{acting, actBytes}
+use Rattle.acts.specs.Acts.{actingNumbers}
 use Rattle.listing.specs.Listing.{listing}
 use Rattle.examples.specs.Cases.{evidenceA, caseA, caseB, caseC, caseD, caseE, caseF, caseG, caseH, caseI, caseJ, caseK, caseM, linesA}
 
@@ -33,6 +34,7 @@ pub data Question : Type 0 where
   -- what an act answers, and the picture's bytes at exit
   act : Act → List ℕ → ℕ → Question
 
+-- what the definitions answer
 unfoldable pub answer : Question → List ℕ
 answer (read bs) = readingNumbers (reading bs)
 answer (weigh bs b) = weighingNumbers (weighing bs b)
@@ -42,6 +44,7 @@ answer (show bs ev) = shown bs ev
 answer (list bs) = listing bs
 answer (act a bs b) = actingNumbers (acting a bs b) ++ actBytes a bs b
 
+-- a question, and what document 01 says
 pub record Row : Type 0 where
   pub question : Question
   pub says : List ℕ

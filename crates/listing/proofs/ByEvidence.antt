@@ -15,7 +15,7 @@ use Rattle.network.specs.Tests.{candidates}
 use Rattle.network.proofs.Weights.{weighed-block}
 use Rattle.network.proofs.Blocks.{read-slots}
 use Rattle.evidence.specs.Canonical.{noCost, weighings, evidenceOf}
-use Rattle.evidence.specs.Checks.{sectionIn}
+use Rattle.evidence.specs.Contents.{sectionIn}
 use Rattle.evidence.proofs.Weighings.{weighings-length, weighing-at}
 use Rattle.evidence.proofs.Held.{Reads, evidence-reads}
 use Rattle.listing.specs.Listing.{blockLine, planLines, listing, listingOf}

@@ -11,7 +11,7 @@ use Rattle.lists.specs.Lists.{range, flat}
 use Rattle.lists.proofs.Growing.{range-more, flat-map-more}
 use Rattle.picture.specs.Layout.{edition1}
 use Rattle.evidence.specs.declared.Head.{Head}
-use Rattle.evidence.specs.Checks.{headIn, sectionIn}
+use Rattle.evidence.specs.Contents.{headIn, sectionIn}
 use Rattle.evidence.proofs.Places.{head-below, section-below}
 use Rattle.listing.specs.Text.{Texted}
 use Rattle.listing.specs.Listing.{servedWord, blockWord, lostWord, markWord, chooseWord, lineEnd, item, servedLine, blockLine, choiceLine}

@@ -1,6 +1,8 @@
--- The listing of a picture as text: document 01, "Field examples". What must be believed: `Decimal`, `Listing`. What serves inner contracts
--- alone: `Text`, `ByEvidence`.
+-- The listing of a picture as text: document 01, "Field examples".
+
+-- To be believed: numbers in decimal, and the lines
 pub mod Decimal
 pub mod Listing
+-- Serve inner contracts alone: text written over a buffer, and the same lines off evidence
 pub mod Text
 pub mod ByEvidence

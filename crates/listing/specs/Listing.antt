@@ -82,5 +82,6 @@ unfoldable pub listingOf : ℕ → Picture → List ℕ
 listingOf zero p = planLines p
 listingOf (suc k) p = refusedLine (suc k)
 
+-- what is printed for any bytes
 unfoldable pub listing : List ℕ → List ℕ
 listing bs = listingOf (pictureFault bs) (pictureOf bs)

@@ -6,7 +6,7 @@ ghost use Prim.Native.Nat.{_+_, _^_, _≤_, _<_};
 ghost use lib.ListN.{length, drop};
 ghost use Rattle.rows.specs.Rows.{slotsMax};
 ghost use Rattle.picture.specs.Layout.{blocksMax};
-ghost use Rattle.evidence.specs.Checks.{headIn};
+ghost use Rattle.evidence.specs.Contents.{headIn};
 ghost use Rattle.listing.specs.Text.{textMax, Texted};
 ghost use Rattle.listing.specs.Listing.{item, servedLine, blockLine, choiceLine, refusedLine, listing};
 ghost use Rattle.listing.specs.ByEvidence.{evidenceLines};

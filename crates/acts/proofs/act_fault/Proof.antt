@@ -8,7 +8,7 @@ use Rattle.picture.specs.Picture.{pictureOf}
 use Rattle.picture.proofs.Facts.{read-sizes}
 use Rattle.network.specs.Words.{blockCount}
 use Rattle.network.proofs.Blocks.{read-blocks}
-use Rattle.acts.specs.Acts.{changes}
+use Rattle.acts.specs.Faults.{changes}
 use Rattle.acts.proofs.Answering.{no-block, no-change, cuts, cuts-none}
 use Rattle.acts.proofs.act_fault.Statement.{statement}
 use Rattle.acts.proofs.act_fault.Tie as tie

@@ -6,7 +6,7 @@ use lib.Dec.{ltb}
 use Rattle.lists.specs.Lists.{on}
 use Rattle.picture.specs.Picture.{pictureOf}
 use Rattle.acts.specs.declared.Act.the-variants.{Reload}
-use Rattle.acts.specs.Acts.{nearFault}
+use Rattle.acts.specs.Faults.{nearFault}
 use Rattle.acts.proofs.Headers.{read-near-limit}
 use Rattle.acts.proofs.block_near_fault.Statement.{statement}
 use Rattle.acts.proofs.block_near_fault.Tie as tie

@@ -1,6 +1,6 @@
 -- `cut_fault` tells whether an act cuts a protected endpoint. Assumes nothing.
 use borrow.Author.Needs.{needs}
-use Rattle.acts.specs.Acts.{cutFault}
+use Rattle.acts.specs.Faults.{cutFault}
 use Rattle.acts.proofs.cut_fault.Statement.{statement}
 use Rattle.acts.proofs.cut_fault.Tie as tie
 

@@ -1,6 +1,6 @@
 -- `near_fault` tells whether too many near slots are held after an act. Assumes nothing.
 use borrow.Author.Needs.{needs}
-use Rattle.acts.specs.Acts.{nearFault}
+use Rattle.acts.specs.Faults.{nearFault}
 use Rattle.acts.proofs.near_fault.Statement.{statement}
 use Rattle.acts.proofs.near_fault.Tie as tie
 

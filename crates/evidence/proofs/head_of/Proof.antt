@@ -2,7 +2,7 @@
 use Rattle.lists.specs.Lists.{sum}
 use Rattle.picture.specs.Layout.{fieldIn}
 use Rattle.evidence.specs.Layout.{headWidths}
-use Rattle.evidence.specs.Checks.{headIn}
+use Rattle.evidence.specs.Contents.{headIn}
 use borrow.Author.Needs.{needs}
 use Rattle.evidence.proofs.head_of.Statement.{statement}
 use Rattle.evidence.proofs.head_of.Tie as tie

@@ -7,7 +7,7 @@ use Rattle.picture.specs.declared.Link.{Link}
 use Rattle.picture.specs.Picture.{linkAt}
 use Rattle.picture.proofs.Starts.{link-halves}
 use Rattle.evidence.specs.Layout.{nodeWidths}
-use Rattle.evidence.specs.Checks.{nodeAt}
+use Rattle.evidence.specs.Contents.{nodeAt}
 use Rattle.checker.specs.Forests.{nodeFrom}
 use borrow.Author.Needs.{needs}
 use Rattle.checker.proofs.forests.node_at.Statement.{statement}

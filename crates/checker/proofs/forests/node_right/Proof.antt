@@ -11,7 +11,7 @@ use Rattle.graph.specs.Kept.{nodeOf}
 use Rattle.graph.specs.Held.{heldIn}
 use Rattle.graph.proofs.Held.{slot-held}
 use Rattle.picture.specs.Layout.{edition1}
-use Rattle.evidence.specs.Checks.{forestIn}
+use Rattle.evidence.specs.Contents.{forestIn}
 use Rattle.checker.proofs.Nodes.{forest-length, node-read, depth-small, slot-in, above-in}
 use Rattle.checker.proofs.Nodes.{node-outside, node-not-held, node-parent-out, node-not-linked, node-depths, node-root}
 use borrow.Author.Needs.{needs}

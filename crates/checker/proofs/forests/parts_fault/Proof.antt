@@ -9,7 +9,7 @@ use Rattle.rows.specs.Rows.{locationsMax, rowWords}
 use Rattle.graph.specs.declared.Node.{Node}
 use Rattle.picture.specs.Layout.{edition1, endpointsMax}
 use Rattle.network.proofs.Making.{clear-made}
-use Rattle.evidence.specs.Checks.{forestIn}
+use Rattle.evidence.specs.Contents.{forestIn}
 use Rattle.checker.proofs.Nodes.{node-read}
 use Rattle.checker.proofs.Following.{Followed, followed-begun, followed-in, followed-out, Closed, closed-begun, closed-none, closed-out, closed-apart}
 use Rattle.checker.proofs.Going.{Given, given, Gone, PartAt, Inside, Sides, sides-whole, sides-less, tables-made, gone-begun, gone-ended}

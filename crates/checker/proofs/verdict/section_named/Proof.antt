@@ -8,7 +8,7 @@ use borrow.Author.Tests.{eq-eqb, ne-eqb}
 use lib.Dec.{eqb}
 use Rattle.lists.proofs.Searches.{place-found, place-none}
 use Rattle.picture.specs.Layout.{edition1}
-use Rattle.evidence.specs.Checks.{sectionIn}
+use Rattle.evidence.specs.Contents.{sectionIn}
 use Rattle.checker.specs.Verdict.{sectionNamed}
 use borrow.Author.Needs.{needs}
 use Rattle.checker.proofs.verdict.section_named.Statement.{statement}
