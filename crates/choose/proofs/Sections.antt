@@ -21,7 +21,7 @@ use Rattle.network.proofs.Named.{accepted-named}
 use Rattle.network.proofs.Weights.{mark-le, weighed-block}
 use Rattle.weigh.specs.Sums.{LostBetween}
 use Rattle.network.proofs.Blocks.{read-block-size, read-endpoints}
-use Rattle.weigh.proofs.Serving.{walked-over, left-slots, left-held, loss-value, mark-value}
+use Rattle.weigh.proofs.Serving.{walked-over, left-slots, left-held, walk-meets, loss-met, mark-met}
 use Rattle.evidence.specs.Canonical.{sectionFields}
 use Rattle.evidence.proofs.Fields.{blocks-small, loss-small}
 use Rattle.choose.specs.Writing.{arraySection, SectionFits}
@@ -70,8 +70,10 @@ module _ {bs : List ℕ} {h : Header} {links services : List (List ℕ)} {weight
     lost-cost =
         let named = accepted-named bs (r .read .accepted) in
         let count = read-endpoints bs h (r .read) in
-        let lost = loss-value p _ _ _ _ named (r .services) (r .ends) count _ _ _ (r .now) b _ _ _ left-walked _ _ s in
-        let told = mark-value p _ _ _ _ named (r .services) (r .ends) count _ _ _ (r .now) b _ _ _ left-walked _ _ s in
+        let now = walk-meets named (r .services) (r .now) in
+        let left = walk-meets named (r .services) left-walked in
+        let lost = loss-met (r .ends) count now b left s in
+        let told = mark-met (r .ends) count now b left s in
         λ i. record { block = sym (weighed-block p b) i; loss = lost i; mark = told i }
 
     section-same : arraySection cost ps ds (h .slots) ≡ sectionFields edition1 p (weighed p b)

@@ -15,7 +15,7 @@ use Rattle.rows.specs.Rows.{inWord, slotsMax}
 use Rattle.graph.specs.Sweeps.{Whole, Entered}
 use Rattle.lists.proofs.Tests.{eq-T}
 use Rattle.rows.proofs.Parts.{done, Union, done-none, done-more, done-marks, marks-done}
-use Rattle.rows.proofs.Words.{WordLeft, word-begun, word-picked, word-next, none-in-zero}
+use Rattle.rows.proofs.InWords.{WordLeft, word-begun, word-picked, word-next, none-in-zero}
 
 module _ {u d : ℕ} {parent depth parent′ depth′ : List ℕ} where
   -- one more entry

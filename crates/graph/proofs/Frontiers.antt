@@ -11,7 +11,7 @@ use lib.ListN.{length, getD}
 use Rattle.rows.specs.Rows.{marked, linkedIn, rowWords, inWord}
 use Rattle.graph.specs.Sweeps.{Locations, Ready, Swept}
 use Rattle.rows.proofs.Parts.{done, done-none, done-marks, marks-done}
-use Rattle.rows.proofs.Words.{WordLeft, word-begun, word-picked, word-next, none-in-zero}
+use Rattle.rows.proofs.InWords.{WordLeft, word-begun, word-picked, word-next, none-in-zero}
 use Rattle.rows.proofs.Marks.{fromWord, from-first, from-past, from-part, row-picked, word-marked}
 use Rattle.graph.proofs.Sweeps.{swept-none, swept-then, swept-as, frontier-joined}
 

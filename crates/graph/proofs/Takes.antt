@@ -15,7 +15,7 @@ use Rattle.graph.specs.Sweeps.{Locations, Ready, Entered, Finds, Sweep, 
 use Rattle.graph.specs.Sweeps.Sweep.{entered, kept}
 use Rattle.lists.proofs.Tests.{T?}
 use Rattle.rows.proofs.Digits.{digit-and, digit-xor}
-use Rattle.rows.proofs.Words.{both-words, common-words, none-in-zero}
+use Rattle.rows.proofs.InWords.{both-words, common-words, none-in-zero}
 use Rattle.rows.proofs.Parts.{done, done-none, done-marks, marks-done}
 use Rattle.rows.proofs.Marks.{mark-is, mark-here, mark-other, word-marked, marked-word, fromWord, from-first, from-past, from-part, row-picked}
 use Rattle.graph.proofs.Sweeps.{sweep-fresh, swept-none, swept-then, swept-as, row-joined}

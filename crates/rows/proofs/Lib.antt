@@ -2,5 +2,5 @@
 pub mod Digits
 pub mod Lowest
 pub mod Parts
-pub mod Words
+pub mod InWords
 pub mod Marks

@@ -18,7 +18,7 @@ use Rattle.rows.specs.Rows.{bit, marked, linkedIn, With, Linked, Meet, r
 use Rattle.lists.proofs.Tests.{and-T, T-and, eq-T, not-not-T, is-false}
 use Rattle.lists.proofs.Picks.{zeros-at}
 use Rattle.rows.proofs.Digits.{bit-none, digit-and, digit-or, digit-xor, digit-shifted}
-use Rattle.rows.proofs.Words.{in-word, word-in, both-words, common-words, none-in-zero, word-begun, word-here}
+use Rattle.rows.proofs.InWords.{in-word, word-in, both-words, common-words, none-in-zero, word-begun, word-here}
 use Rattle.rows.proofs.Parts.{done-split, Part, Picked}
 
 -- a mark is a digit that is set

@@ -67,6 +67,12 @@ serving p held {table} {row} n t marks-reached reached-marks = record { meet = m
           apart = λ s v a b. T-not (served p (marks p held) c) s (served-marked n (record { location = v; serves = subst T (t .same c v) a; reached = marks-reached v b }));
         }
 
+-- the row of what a walk reaches is one
+pub walk-meets : {p : Picture} {held : ℕ → Bool} {table : List (List ℕ)} {row parent depth : List ℕ} → Named p
+    → RowsOf (suc endpointsMax) (λ c a. joins (p .serviceLinks) a c) table → Walked (joins (p .links)) held (marked row) parent depth
+    → Meets table row (served p (marks p held))
+walk-meets {p} {held} n t w = serving p held n t (w .marks-reached) (w .reached-marks)
+
 -- nothing is served by nothing
 pub none-served : (table : List (List ℕ)) (row : List ℕ) → ((v : ℕ) → ¬ T (marked row v)) → Meets table row (λ _. false)
 none-served table row n = record { meet = λ c. record { common = λ t. absurd t; apart = λ t v a b. n v b } }
@@ -118,19 +124,3 @@ module _ {p : Picture} {table : List (List ℕ)} {weights guarded : List ℕ} {d
     pub mark-met : m ≡ weighed p b .mark
     unfolding weighed cut before after
     mark-met = l .marks before after now without ∙ between-mark p weights guarded e d many before after
-
--- the same of walks
-module _ (p : Picture) (table : List (List ℕ)) (weights guarded : List ℕ) (d : ℕ) (named : Named p) (t : RowsOf (suc endpointsMax) (λ c a. joins (p .serviceLinks) a c) table) (e : EndpointsOf p weights guarded)
-    (many : d ≡ endpointCount p) (row parent depth : List ℕ) (now : Walked (joins (p .links)) (isHeld p) (marked row) parent depth) where
-  met : Meets table row (served p (marks p (isHeld p)))
-  met = serving p (isHeld p) named t (now .marks-reached) (now .reached-marks)
-
-  pub served-value : (none : List ℕ) (w m : ℕ) → ((v : ℕ) → ¬ T (marked none v)) → LostBetween table weights guarded d row none w m → w ≡ servedWeight p
-  served-value none w m n l = served-met e many met n l
-
-  module _ (b : ℕ) (row′ parent′ depth′ : List ℕ) (without : Walked (joins (p .links)) (heldWithout p b) (marked row′) parent′ depth′) (w m : ℕ) (l : LostBetween table weights guarded d row row′ w m) where
-    pub loss-value : w ≡ weighed p b .loss
-    loss-value = loss-met e many met b (serving p (heldWithout p b) named t (without .marks-reached) (without .reached-marks)) l
-
-    pub mark-value : m ≡ weighed p b .mark
-    mark-value = mark-met e many met b (serving p (heldWithout p b) named t (without .marks-reached) (without .reached-marks)) l

@@ -14,7 +14,7 @@ use Rattle.rows.proofs.Marks.{clear}
 use Rattle.network.proofs.Making.{clear-made}
 use Rattle.network.proofs.Named.{accepted-named}
 use Rattle.network.proofs.Blocks.{read-endpoints}
-use Rattle.weigh.proofs.Serving.{walked-over, sums-ready, served-value}
+use Rattle.weigh.proofs.Serving.{walked-over, sums-ready, walk-meets, served-met}
 use Rattle.evidence.specs.Calls.{lengthFor}
 use Rattle.evidence.proofs.Places.{head-whole}
 use Rattle.evidence.proofs.Lengths.{sectionsStart}
@@ -73,7 +73,7 @@ served c =
     let r = rows (walked c) in
     let named = accepted-named _ (r .read .accepted) in
     let count = read-endpoints _ _ (r .read) in
-    served-value _ _ _ _ _ named (r .services) (r .ends) count _ _ _ (r .now) _ _ _ (clear rowWords) (c .lost-between .ensures)
+    served-met (r .ends) count (walk-meets named (r .services) (r .now)) (clear rowWords) (c .lost-between .ensures)
 
 -- the sections behind the first forest
 sectioned : (c : tie.After-put-sections) → let w = walked (lost (planted c)) in let s = c .put-sections in

@@ -4,7 +4,7 @@ use native.Mathlib.Omega.{arith}
 use Rattle.rows.specs.Rows.{slotsMax}
 use borrow.Author.Needs.{needs}
 use lib.Count.{trailingZeros, trailing-le}
-use Rattle.rows.proofs.Words.{word-here, word-less}
+use Rattle.rows.proofs.InWords.{word-here, word-less}
 use Rattle.graph.proofs.Entries.{Entering, begun, hit, ended}
 use Rattle.graph.proofs.enter.Statement.{statement}
 use Rattle.graph.proofs.enter.Tie as tie

@@ -4,7 +4,7 @@ use native.Mathlib.Omega.{arith}
 use Rattle.rows.specs.Rows.{slotsMax}
 use borrow.Author.Needs.{needs}
 use lib.Count.{trailingZeros, trailing-le}
-use Rattle.rows.proofs.Words.{word-here, word-less}
+use Rattle.rows.proofs.InWords.{word-here, word-less}
 use Rattle.graph.proofs.Frontiers.{WordSweeping, word-sweep-begun, word-sweep-next, word-sweep-ended}
 use Rattle.graph.proofs.sweep_word.Statement.{statement}
 use Rattle.graph.proofs.sweep_word.Tie as tie

@@ -11,7 +11,7 @@ use Rattle.network.proofs.Blocks.{read-block-size, read-endpoints, read-block}
 use Rattle.network.proofs.Making.{clear-made}
 use Rattle.rows.proofs.Marks.{clear}
 use Rattle.weigh.specs.Weighing.{weightsOf}
-use Rattle.weigh.proofs.Serving.{walked-over, left-slots, left-held, sums-ready, served-value, loss-value, mark-value}
+use Rattle.weigh.proofs.Serving.{walked-over, left-slots, left-held, sums-ready, walk-meets, served-met, loss-met, mark-met}
 use borrow.Author.Needs.{needs}
 use Rattle.weigh.proofs.weigh_block.Statement.{statement}
 use Rattle.weigh.proofs.weigh_block.Tie as tie
@@ -93,9 +93,11 @@ returns c =
     let count = read-endpoints _ _ read in
     let all = c .before .before .before .lost-between .ensures in
     let lost = c .lost-between2 .ensures in
-    let w = served-value (shown k) _ _ _ _ named services ends count _ _ _ (now-walked k) _ _ _ (clear rowWords) all in
-    let l = loss-value (shown k) _ _ _ _ named services ends count _ _ _ (now-walked k) (evicted k) _ _ _ (left-walked k) _ _ lost in
-    let m = mark-value (shown k) _ _ _ _ named services ends count _ _ _ (now-walked k) (evicted k) _ _ _ (left-walked k) _ _ lost in
+    let now = walk-meets named services (now-walked k) in
+    let left = walk-meets named services (left-walked k) in
+    let w = served-met ends count now (clear rowWords) all in
+    let l = loss-met ends count now (evicted k) left lost in
+    let m = mark-met ends count now (evicted k) left lost in
     λ i. record { served = w i; loss = l i; mark = m i }
 
 pub weigh-block-spec : {M : Type 1} → statement M
