@@ -2,3 +2,4 @@
 pub mod Masks
 pub mod Reading
 pub mod Writing
+pub mod Pushing

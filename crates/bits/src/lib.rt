@@ -1,9 +1,10 @@
 // Bit fields of a general width at any bit position of a byte slice, the most significant bit first.
-// A field is read from a window of four bytes and written a byte at a time, with shifts and masks.
+// A field is read from a window of four bytes and written a byte at a time, with shifts and masks; fields that follow each other are pushed.
 ghost use mathlib.Core.Path.{_≡_};
 ghost use Prim.Native.Nat.{_+_, _*_, _/_, _%_, _^_, _≤_, _<_};
-ghost use lib.ListN.{length};
+ghost use lib.ListN.{length, set};
 ghost use Rattle.bits.specs.Bits.{fieldAt, putField};
+ghost use Rattle.bits.specs.Pushing.{Pushable, Pushed};
 
 // The digits of v, then the eight of b.
 fn then_byte(v: usize, b: u8) -> usize
@@ -87,4 +88,29 @@ pub fn put_field(s: &mut [u8], p: usize, w: usize, v: usize)
         put_in_byte(s, at, next, v >> (left - next));
         done += next;
     }
+}
+
+// Byte k becomes b.
+fn store(s: &mut [u8], k: usize, b: u8)
+    requires { ⌜ k < length (now s) ⌝ }
+    ensures { λ _. ⌜ now (s .exit) ≡ set (now (s .entry)) k b ⌝ }
+{
+    s[k] = b;
+}
+
+// The field of w bits behind what is written up to bit p, of which the last p % 8 bits are held and stand in no byte yet. Whole bytes are
+// stored, none is read, and what fills no byte is held for the next field.
+pub fn push_field(s: &mut [u8], p: usize, held: usize, w: usize, v: usize) -> usize
+    requires { ⌜ Pushable (now s) p held w v ⌝ }
+    ensures { λ r. ⌜ Pushed (now (s .entry)) p held w v (now (s .exit)) r ⌝ }
+{
+    let all = (held << w) | v;
+    let mut left = p % 8 + w;
+    let mut k = p / 8;
+    while 8 <= left {
+        left -= 8;
+        store(s, k, ((all >> left) % 256) as u8);
+        k += 1;
+    }
+    all & ((1 << left) - 1)
 }
