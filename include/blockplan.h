@@ -2,8 +2,8 @@
  * blockplan: which flash block of a map relay to give up, with evidence that anyone can check.
  *
  * A picture is the state of one relay's network as bytes. Evidence says which block was chosen and why. The library is proved: on every input
- * each call ends, reads and writes inside its buffers only, and gives the answer that the scope document ("01" below) fixes. Link with
- * libblockplan_c.a (x86-64, System V calls), which `rt staticlib blockplan_c` makes; besides the five calls it names only memcpy and memset.
+ * each call ends, reads and writes inside its buffers and lists only, and gives the answer that the scope document ("01" below) fixes. Link with
+ * libblockplan_c.a (x86-64, System V calls), which `rt staticlib blockplan_c` makes; besides the six calls it names only memcpy and memset.
  *
  * docs/FORMAT.md has formats, words and numbers in full, with an example byte by byte.
  *
@@ -16,18 +16,21 @@
  * any buffer has changed.
  *
  * WHAT A CALLER OWES, and no call can test:
- * - Each pointer points to as many bytes as the length says, also where the length is 0: a null pointer is never allowed. Any alignment will do.
- * - The two buffers of a call do not overlap.
- * - One call at a time on a buffer: while a call runs, nothing else (thread, interrupt, DMA) touches a buffer that it writes, or writes one that
- *   it reads.
- * Nothing is asked of what the bytes hold, of how many they are, or of a block number. Hand over all bytes that came, or at least one more than
- * BLOCKPLAN_PICTURE_MAX: a picture that is cut off there could pass for a whole one.
+ * - Each pointer points to as many bytes as the length says, or to as many rows as the count says, also where that is 0: a null pointer is never
+ *   allowed. For bytes and bools any alignment will do; lists of uint16_t are aligned as C aligns them.
+ * - Each bool is 0 or 1. What a call does with another value in its byte is undefined.
+ * - The two buffers of a call do not overlap, and no list overlaps the buffer that the picture is written to.
+ * - One call at a time on a buffer: while a call runs, nothing else (thread, interrupt, DMA) touches a buffer that it writes, or writes a buffer
+ *   or list that it reads.
+ * Nothing else is asked of what bytes and lists hold, of how long they are, or of a block's number or size. Hand over all bytes of a picture that
+ * came, or at least one more than BLOCKPLAN_PICTURE_MAX: a picture that is cut off there could pass for a whole one.
  *
  * MEMORY. Nothing is allocated and nothing is kept between calls. A call takes at most BLOCKPLAN_STACK bytes of stack.
  */
 #ifndef BLOCKPLAN_H
 #define BLOCKPLAN_H
 
+#include <stdbool.h>
 #include <stddef.h>
 #include <stdint.h>
 
@@ -45,7 +48,7 @@ extern "C" {
  *   S service links location 8 (0 to n), endpoint 8 (1 to D)
  *   zero bits up to the byte, then the end
  *
- * n is a multiple of the block size. The limits:
+ * n is a multiple of the block size. A buffer of BLOCKPLAN_PICTURE_MAX bytes is long enough for every picture. The limits:
  */
 #define BLOCKPLAN_BLOCK_SIZE_MAX 8
 #define BLOCKPLAN_SLOTS_MAX 240
@@ -77,17 +80,22 @@ extern "C" {
 /* The most stack that a call takes, in bytes. */
 #define BLOCKPLAN_STACK 65536
 
-/* The numbers of refusals. Every call judges the picture first (1 to 7). */
+/*
+ * The numbers of refusals. Every call judges the picture first (1 to 7); write, which is handed the lists of one, judges these by the same rules in
+ * the same order (3 to 6).
+ */
 enum blockplan_refusal {
     BLOCKPLAN_REFUSED_SHORT = 1,      /* the picture is shorter than a header, or than its header says */
     BLOCKPLAN_REFUSED_EDITION = 2,    /* its edition is not 1 */
-    BLOCKPLAN_REFUSED_BLOCKS = 3,     /* block size, slots or number of blocks out of range, or slots not a multiple of the block size */
-    BLOCKPLAN_REFUSED_COUNTS = 4,     /* number of endpoints, links or service links out of range */
-    BLOCKPLAN_REFUSED_STATE = 5,      /* a slot in state 3 */
+    BLOCKPLAN_REFUSED_BLOCKS = 3,     /* block size, slots or number of blocks out of range, or slots not a multiple of the block size;
+                                         write: also where states and near marks differ in number */
+    BLOCKPLAN_REFUSED_COUNTS = 4,     /* number of endpoints, links or service links out of range;
+                                         write: also where weights and protection marks differ in number */
+    BLOCKPLAN_REFUSED_STATE = 5,      /* a slot in state 3; write: in state 3 or above */
     BLOCKPLAN_REFUSED_LINK = 6,       /* a link or service link names what is not there */
     BLOCKPLAN_REFUSED_FILL = 7,       /* fill bits not zero, or bytes left */
     BLOCKPLAN_REFUSED_NO_BLOCK = 8,   /* the acts: no block of this number */
-    BLOCKPLAN_REFUSED_BUFFER = 9,     /* choose: the buffer is under the evidence's length */
+    BLOCKPLAN_REFUSED_BUFFER = 9,     /* choose, write: the buffer is under the length of the evidence, or of the picture */
     BLOCKPLAN_REFUSED_PROTECTED = 10, /* evict, free: a protected endpoint would be cut */
     BLOCKPLAN_REFUSED_NO_CHANGE = 11, /* the acts: no slot would change */
     BLOCKPLAN_REFUSED_NEAR = 12,      /* reload: it adds a held near slot, and more than the near limit would be held */
@@ -119,6 +127,31 @@ int32_t blockplan_check(const uint8_t *picture, size_t picture_length, const uin
 int32_t blockplan_evict(uint8_t *picture, size_t picture_length, uint32_t block);
 int32_t blockplan_reload(uint8_t *picture, size_t picture_length, uint32_t block);
 int32_t blockplan_free(uint8_t *picture, size_t picture_length, uint32_t block);
+
+/*
+ * Writes the picture of a network that is told by lists, as a layout editor has them, into the buffer and returns its length; the bytes beyond stay
+ * as they were. The other calls accept the picture. Each list is a pointer and its number of rows, and these numbers are n, D, L and S:
+ *
+ *   slots 1 to n      states (0 held, 1 recoverable, 2 freed) and is_near, a row of each for a slot
+ *   endpoints 1 to D  weights and is_protected, a row of each for an endpoint
+ *   L links           from, to (locations, 0 to n)
+ *   S service links   location (0 to n), endpoint (1 to D)
+ *
+ * The near limit may be any number of its type. Refuses, in this order, with
+ *
+ *   3  where state_count and near_count differ; where the block size is 0 or above BLOCKPLAN_BLOCK_SIZE_MAX, or n is 0, above BLOCKPLAN_SLOTS_MAX
+ *      or no multiple of the block size, or there are more than BLOCKPLAN_BLOCKS_MAX blocks
+ *   4  where weight_count and protected_count differ; where D is above BLOCKPLAN_ENDPOINTS_MAX, or L or S above BLOCKPLAN_LINKS_MAX
+ *   5  where a state is above 2
+ *   6  where an end of a link is above n; then, where a service link has a location above n, or an endpoint that is 0 or above D
+ *   9  where the buffer is shorter than the picture
+ *
+ * Rows of links that are not const take a cast, (const uint16_t (*)[2])links, in C before C23.
+ */
+int32_t blockplan_write(uint32_t block_size, uint8_t near_limit, const uint8_t *states, size_t state_count, const bool *is_near, size_t near_count,
+                        const uint16_t *weights, size_t weight_count, const bool *is_protected, size_t protected_count,
+                        const uint16_t (*links)[2], size_t link_count, const uint16_t (*service_links)[2], size_t service_link_count,
+                        uint8_t *picture, size_t picture_length);
 
 #ifdef __cplusplus
 }

@@ -15,7 +15,7 @@ use peer::choice::evidence_bytes;
 use peer::networks::{dense_held, hold_all, long_chain, Size};
 use peer::picture::{Picture, State, MAX_BLOCKS, MAX_SLOTS};
 use peer::random::Random;
-use peer::{samples, write};
+use peer::{lists_of, pack, samples, Lists};
 
 const DEFAULT_REPETITIONS: usize = 15;
 /// One measurement repeats its call until this is over, so that the clock's grain does not count.
@@ -24,30 +24,36 @@ const SEED: u64 = 7;
 /// What the header for C promises, `BLOCKPLAN_STACK`.
 const STACK_LIMIT: usize = 65_536;
 
-/// A picture to measure on, with its evidence.
+/// A picture to measure on, with its evidence and its lists.
 struct Case {
     picture: Vec<u8>,
     evidence: Vec<u8>,
+    lists: Lists,
 }
 
 impl Case {
     fn of(picture: &Picture) -> Case {
-        let picture = write(picture);
+        let lists = lists_of(picture);
+        let picture = pack(picture);
         let mut evidence = vec![0; evidence_bytes(MAX_SLOTS, MAX_BLOCKS)];
         let length = peer::choose(&picture, &mut evidence).expect("the cases are accepted");
         evidence.truncate(length);
-        let case = Case { picture, evidence };
+        let case = Case { picture, evidence, lists };
         case.must_agree();
         case
     }
 
     /// Times of two that do different things are no comparison.
     fn must_agree(&self) {
-        let mut written = vec![0; self.evidence.len()];
-        let answer = archive::choose(&self.picture, &mut written);
-        let agrees = answer == written.len() as i32
-            && written == self.evidence
-            && archive::check(&self.picture, &self.evidence) == 0;
+        let mut evidence = vec![0; self.evidence.len()];
+        let chosen = archive::choose(&self.picture, &mut evidence);
+        let mut picture = vec![0; self.picture.len()];
+        let written = archive::write(&self.lists, &mut picture);
+        let agrees = chosen == evidence.len() as i32
+            && evidence == self.evidence
+            && archive::check(&self.picture, &self.evidence) == 0
+            && written == picture.len() as i32
+            && picture == self.picture;
         if !agrees {
             eprintln!("bench: archive and peer differ; run compare");
             exit(1);
@@ -67,7 +73,14 @@ impl Case {
             || archive::check(black_box(&self.picture), black_box(&self.evidence)),
             || peer::check(black_box(&self.picture), black_box(&self.evidence)),
         );
-        Times { choose, check }
+        let mut pictures = [self.picture.clone(), self.picture.clone()];
+        let [archive_picture, peer_picture] = &mut pictures;
+        let write = medians(
+            repetitions,
+            || archive::write(black_box(&self.lists), archive_picture),
+            || peer::write(black_box(&self.lists), peer_picture),
+        );
+        Times { choose, check, write }
     }
 }
 
@@ -81,6 +94,7 @@ struct Medians {
 struct Times {
     choose: Medians,
     check: Medians,
+    write: Medians,
 }
 
 /// Both calls warmed up, then measured in turn, with the first of the two alternating.
@@ -154,7 +168,8 @@ fn print_times(repetitions: usize) {
     println!("{:<36}{:<8}{:>12}{:>12}{:>14}", "case", "call", "archive", "peer", "archive/peer");
     for (name, picture) in cases() {
         let times = Case::of(&picture).times(repetitions);
-        for (call, medians) in [("choose", times.choose), ("check", times.check)] {
+        let rows = [("choose", times.choose), ("check", times.check), ("write", times.write)];
+        for (call, medians) in rows {
             let Medians { archive, peer } = medians;
             println!("{name:<36}{call:<8}{archive:>12.2}{peer:>12.2}{:>14.2}", archive / peer);
         }
@@ -214,13 +229,14 @@ fn pictures_for_acts(picture: &Picture) -> (Vec<u8>, Vec<u8>) {
     for location in open.block_locations(0) {
         evicted.slots[location - 1].state = State::Recoverable;
     }
-    (write(&open), write(&evicted))
+    (pack(&open), pack(&evicted))
 }
 
-fn peaks(picture: &Picture) -> [usize; 5] {
+fn peaks(picture: &Picture) -> [usize; 6] {
     let case = Case::of(picture);
     let (open, evicted) = pictures_for_acts(picture);
-    let mut buffer = vec![0; case.evidence.len()];
+    let mut evidence = vec![0; case.evidence.len()];
+    let mut written = vec![0; case.picture.len()];
     let act = |act: fn(&mut [u8], u32) -> i32, picture: &[u8]| {
         // The call runs twice, each time on the picture as it was.
         let mut lent = picture.to_vec();
@@ -231,7 +247,7 @@ fn peaks(picture: &Picture) -> [usize; 5] {
     };
     [
         stack::peak(&mut || {
-            archive::choose(&case.picture, &mut buffer);
+            archive::choose(&case.picture, &mut evidence);
         }),
         stack::peak(&mut || {
             archive::check(&case.picture, &case.evidence);
@@ -239,6 +255,9 @@ fn peaks(picture: &Picture) -> [usize; 5] {
         act(archive::evict, &open),
         act(archive::reload, &evicted),
         act(archive::free, &open),
+        stack::peak(&mut || {
+            archive::write(&case.lists, &mut written);
+        }),
     ]
 }
 
@@ -246,14 +265,14 @@ fn peaks(picture: &Picture) -> [usize; 5] {
 fn print_stack() -> usize {
     println!("peak stack of the archive's calls in bytes (upper estimates: a page of 4096 is added)");
     println!(
-        "{:<36}{:>10}{:>10}{:>10}{:>10}{:>10}",
-        "case", "choose", "check", "evict", "reload", "free"
+        "{:<36}{:>10}{:>10}{:>10}{:>10}{:>10}{:>10}",
+        "case", "choose", "check", "evict", "reload", "free", "write"
     );
     let mut most = 0;
     for (name, picture) in cases() {
         let peaks = peaks(&picture);
-        let [choose, check, evict, reload, free] = peaks;
-        println!("{name:<36}{choose:>10}{check:>10}{evict:>10}{reload:>10}{free:>10}");
+        let [choose, check, evict, reload, free, write] = peaks;
+        println!("{name:<36}{choose:>10}{check:>10}{evict:>10}{reload:>10}{free:>10}{write:>10}");
         most = peaks.into_iter().fold(most, usize::max);
     }
     most

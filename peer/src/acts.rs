@@ -2,9 +2,9 @@
 
 use std::ops::Range;
 
-use crate::refusals;
-use crate::picture::{read, write, Picture, State};
+use crate::picture::{pack, read, Picture, State};
 use crate::reach::Network;
+use crate::refusals;
 
 /// Turns the block's held slots into recoverable ones.
 pub fn evict(lent: &mut [u8], block: u32) -> Result<(), u8> {
@@ -15,7 +15,7 @@ pub fn evict(lent: &mut [u8], block: u32) -> Result<(), u8> {
         other => other,
     })?;
     judge_cut(&picture, &locations)?;
-    lent.copy_from_slice(&write(&changed));
+    lent.copy_from_slice(&pack(&changed));
     Ok(())
 }
 
@@ -32,7 +32,7 @@ pub fn reload(lent: &mut [u8], block: u32) -> Result<(), u8> {
     if held_near > picture.held_near() && held_near > usize::from(picture.near_limit) {
         return Err(refusals::NEAR);
     }
-    lent.copy_from_slice(&write(&changed));
+    lent.copy_from_slice(&pack(&changed));
     Ok(())
 }
 
@@ -42,7 +42,7 @@ pub fn free(lent: &mut [u8], block: u32) -> Result<(), u8> {
     let locations = picture.named_block(block)?;
     let changed = with_states(&picture, &locations, |_| State::Freed)?;
     judge_cut(&picture, &locations)?;
-    lent.copy_from_slice(&write(&changed));
+    lent.copy_from_slice(&pack(&changed));
     Ok(())
 }
 

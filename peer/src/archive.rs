@@ -4,6 +4,8 @@
 // The one module of the library that calls foreign code.
 #![allow(unsafe_code)]
 
+use crate::lists::Lists;
+
 mod calls {
     extern "C" {
         pub fn blockplan_choose(
@@ -21,11 +23,30 @@ mod calls {
         pub fn blockplan_evict(picture: *mut u8, picture_len: usize, block: u32) -> i32;
         pub fn blockplan_reload(picture: *mut u8, picture_len: usize, block: u32) -> i32;
         pub fn blockplan_free(picture: *mut u8, picture_len: usize, block: u32) -> i32;
+        pub fn blockplan_write(
+            block_size: u32,
+            near_limit: u8,
+            states: *const u8,
+            state_count: usize,
+            is_near: *const bool,
+            near_count: usize,
+            weights: *const u16,
+            weight_count: usize,
+            is_protected: *const bool,
+            protected_count: usize,
+            links: *const [u16; 2],
+            link_count: usize,
+            service_links: *const [u16; 2],
+            service_link_count: usize,
+            picture: *mut u8,
+            picture_len: usize,
+        ) -> i32;
     }
 }
 
-// In every function below: pointer and length come from one slice, also where it is empty, and two
-// slices of which one is mutable do not overlap. That is all the interface asks for.
+// In every function below: pointer and length come from one slice or column, also where it is empty,
+// and two of which one is mutable do not overlap; a column's pointer is aligned to its rows, and a bool
+// is 0 or 1. That is all the interface asks for.
 
 pub fn choose(picture: &[u8], evidence: &mut [u8]) -> i32 {
     unsafe {
@@ -47,4 +68,27 @@ pub fn reload(picture: &mut [u8], block: u32) -> i32 {
 
 pub fn free(picture: &mut [u8], block: u32) -> i32 {
     unsafe { calls::blockplan_free(picture.as_mut_ptr(), picture.len(), block) }
+}
+
+pub fn write(lists: &Lists, picture: &mut [u8]) -> i32 {
+    unsafe {
+        calls::blockplan_write(
+            lists.block_size,
+            lists.near_limit,
+            lists.states.as_ptr(),
+            lists.states.len(),
+            lists.near.as_ptr(),
+            lists.near.len(),
+            lists.weights.as_ptr(),
+            lists.weights.len(),
+            lists.protected.as_ptr(),
+            lists.protected.len(),
+            lists.links.as_ptr(),
+            lists.links.len(),
+            lists.serving.as_ptr(),
+            lists.serving.len(),
+            picture.as_mut_ptr(),
+            picture.len(),
+        )
+    }
 }

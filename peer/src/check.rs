@@ -3,9 +3,9 @@
 use std::ops::Range;
 
 use crate::choice::{evidence_bytes, section_bytes, EVIDENCE_EDITION, HEAD_BYTES, SECTION_HEAD_BYTES};
-use crate::refusals;
 use crate::picture::{read, Picture};
 use crate::reach::{Forest, Network, NOTHING};
+use crate::refusals;
 
 /// Evidence whose shape is right: everything that number 13 judges holds.
 struct Evidence<'e> {

@@ -1,8 +1,8 @@
 //! Weighing blocks, choosing one, and writing the evidence for it.
 
-use crate::refusals;
 use crate::picture::{read, Picture};
 use crate::reach::{Cut, Forest, Network, NOTHING};
+use crate::refusals;
 
 pub const EVIDENCE_EDITION: u8 = 1;
 /// Bytes before the first forest.

@@ -10,15 +10,17 @@ pub mod acts;
 pub mod bits;
 pub mod check;
 pub mod choice;
-pub mod refusals;
 pub mod listing;
+pub mod lists;
 pub mod picture;
 pub mod reach;
+pub mod refusals;
 
 #[cfg(feature = "archive")]
 pub mod archive;
 
 // Inputs for the tests, the comparison and the benchmark.
+pub mod faults;
 pub mod foreign;
 pub mod networks;
 pub mod random;
@@ -28,7 +30,8 @@ pub use acts::{evict, free, reload};
 pub use check::{check, show};
 pub use choice::{choose, weigh};
 pub use listing::listing;
-pub use picture::{read, write, Picture};
+pub use lists::{lists_of, write, Lists};
+pub use picture::{pack, read, Picture};
 
 #[cfg(test)]
 mod random_tests;

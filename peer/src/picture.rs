@@ -1,4 +1,4 @@
-//! The picture of one network: its layout in bytes, read and written.
+//! The picture of one network: its layout in bytes, read and packed.
 
 use std::ops::Range;
 
@@ -12,12 +12,29 @@ pub const MAX_SLOTS: usize = 240;
 pub const MAX_BLOCKS: usize = 60;
 pub const MAX_ENDPOINTS: usize = 200;
 pub const MAX_LINKS: usize = 2000;
+pub const MAX_PICTURE_BYTES: usize = picture_bytes(MAX_SLOTS, MAX_ENDPOINTS, 2 * MAX_LINKS);
+
+/// The bytes of a picture; links are those of both kinds.
+pub const fn picture_bytes(slots: usize, endpoints: usize, links: usize) -> usize {
+    HEADER_BYTES + (3 * slots + 17 * endpoints + 16 * links).div_ceil(8)
+}
 
 #[derive(Clone, Copy, Debug, PartialEq, Eq)]
 pub enum State {
     Held,
     Recoverable,
     Freed,
+}
+
+impl State {
+    pub fn of(number: u8) -> Result<State, u8> {
+        match number {
+            0 => Ok(State::Held),
+            1 => Ok(State::Recoverable),
+            2 => Ok(State::Freed),
+            _ => Err(refusals::STATE),
+        }
+    }
 }
 
 #[derive(Clone, Copy, Debug, PartialEq, Eq)]
@@ -84,14 +101,14 @@ impl Slot {
     }
 }
 
-/// The header as it stands in the first seven bytes, before any judgement but the edition's.
-struct Header {
-    block_size: u8,
-    slots: usize,
-    near_limit: u8,
-    endpoints: usize,
-    links: usize,
-    serving: usize,
+/// What a header says of sizes, before it is judged.
+pub(crate) struct Header {
+    pub block_size: usize,
+    pub slots: usize,
+    pub near_limit: u8,
+    pub endpoints: usize,
+    pub links: usize,
+    pub serving: usize,
 }
 
 impl Header {
@@ -100,7 +117,7 @@ impl Header {
             return Err(refusals::EDITION);
         }
         Ok(Header {
-            block_size: fields.byte(4),
+            block_size: fields.field(4) as usize,
             slots: fields.field(8) as usize,
             near_limit: fields.byte(8),
             endpoints: fields.field(8) as usize,
@@ -109,28 +126,44 @@ impl Header {
         })
     }
 
-    fn judge(&self) -> Result<(), u8> {
-        if !self.blocks_fit() {
-            return Err(refusals::BLOCKS);
-        }
-        if self.endpoints > MAX_ENDPOINTS || self.links > MAX_LINKS || self.serving > MAX_LINKS {
-            return Err(refusals::COUNTS);
-        }
-        Ok(())
+    pub fn judge_blocks(&self) -> Result<(), u8> {
+        let fits = (1..=MAX_BLOCK_SIZE).contains(&self.block_size)
+            && (1..=MAX_SLOTS).contains(&self.slots)
+            && self.slots % self.block_size == 0
+            && self.slots / self.block_size <= MAX_BLOCKS;
+        fits.then_some(()).ok_or(refusals::BLOCKS)
     }
 
-    fn blocks_fit(&self) -> bool {
-        let size = usize::from(self.block_size);
-        (1..=MAX_BLOCK_SIZE).contains(&size)
-            && (1..=MAX_SLOTS).contains(&self.slots)
-            && self.slots % size == 0
-            && self.slots / size <= MAX_BLOCKS
+    pub fn judge_counts(&self) -> Result<(), u8> {
+        let fits =
+            self.endpoints <= MAX_ENDPOINTS && self.links <= MAX_LINKS && self.serving <= MAX_LINKS;
+        fits.then_some(()).ok_or(refusals::COUNTS)
+    }
+
+    /// A link whose ends are both there.
+    pub fn link(&self, from: u16, to: u16) -> Result<(u8, u8), u8> {
+        let is_there = self.has_location(from) && self.has_location(to);
+        named(is_there, from, to)
+    }
+
+    /// A serving link whose location and endpoint are there.
+    pub fn serving_link(&self, location: u16, endpoint: u16) -> Result<(u8, u8), u8> {
+        let has_endpoint = (1..=self.endpoints).contains(&usize::from(endpoint));
+        named(self.has_location(location) && has_endpoint, location, endpoint)
+    }
+
+    fn has_location(&self, location: u16) -> bool {
+        usize::from(location) <= self.slots
     }
 
     fn picture_bytes(&self) -> usize {
-        let bits = 3 * self.slots + 17 * self.endpoints + 16 * (self.links + self.serving);
-        HEADER_BYTES + bits.div_ceil(8)
+        picture_bytes(self.slots, self.endpoints, self.links + self.serving)
     }
+}
+
+/// What is there has a number of eight bits.
+fn named(is_there: bool, first: u16, second: u16) -> Result<(u8, u8), u8> {
+    is_there.then_some((first as u8, second as u8)).ok_or(refusals::LINK)
 }
 
 /// Reads a picture, or tells its first fault.
@@ -140,7 +173,8 @@ pub fn read(bytes: &[u8]) -> Result<Picture, u8> {
     }
     let mut fields = BitReader::new(bytes);
     let header = Header::read(&mut fields)?;
-    header.judge()?;
+    header.judge_blocks()?;
+    header.judge_counts()?;
     let length = header.picture_bytes();
     if bytes.len() < length {
         return Err(refusals::SHORT);
@@ -156,13 +190,12 @@ pub fn read(bytes: &[u8]) -> Result<Picture, u8> {
 fn read_body(fields: &mut BitReader, header: &Header) -> Result<Picture, u8> {
     let slots = (0..header.slots).map(|_| read_slot(fields)).collect::<Result<_, u8>>()?;
     let endpoints = (0..header.endpoints).map(|_| read_endpoint(fields)).collect();
-    let links =
-        read_links(fields, header.links, |(from, to)| from <= header.slots && to <= header.slots)?;
-    let serving = read_links(fields, header.serving, |(location, endpoint)| {
-        location <= header.slots && (1..=header.endpoints).contains(&endpoint)
+    let links = read_links(fields, header.links, |from, to| header.link(from, to))?;
+    let serving = read_links(fields, header.serving, |location, endpoint| {
+        header.serving_link(location, endpoint)
     })?;
     Ok(Picture {
-        block_size: header.block_size,
+        block_size: header.block_size as u8,
         near_limit: header.near_limit,
         slots,
         endpoints,
@@ -172,13 +205,7 @@ fn read_body(fields: &mut BitReader, header: &Header) -> Result<Picture, u8> {
 }
 
 fn read_slot(fields: &mut BitReader) -> Result<Slot, u8> {
-    let state = match fields.field(2) {
-        0 => State::Held,
-        1 => State::Recoverable,
-        2 => State::Freed,
-        _ => return Err(refusals::STATE),
-    };
-    Ok(Slot { state, near: fields.field(1) == 1 })
+    Ok(Slot { state: State::of(fields.byte(2))?, near: fields.field(1) == 1 })
 }
 
 fn read_endpoint(fields: &mut BitReader) -> Endpoint {
@@ -189,21 +216,18 @@ fn read_endpoint(fields: &mut BitReader) -> Endpoint {
 fn read_links(
     fields: &mut BitReader,
     count: usize,
-    names_what_is_there: impl Fn((usize, usize)) -> bool,
+    link: impl Fn(u16, u16) -> Result<(u8, u8), u8>,
 ) -> Result<Vec<(u8, u8)>, u8> {
     let mut links = Vec::with_capacity(count);
     for _ in 0..count {
         let (first, second) = (fields.byte(8), fields.byte(8));
-        if !names_what_is_there((usize::from(first), usize::from(second))) {
-            return Err(refusals::LINK);
-        }
-        links.push((first, second));
+        links.push(link(u16::from(first), u16::from(second))?);
     }
     Ok(links)
 }
 
-/// Writes a picture that keeps the limits.
-pub fn write(picture: &Picture) -> Vec<u8> {
+/// Packs a picture that keeps the limits.
+pub fn pack(picture: &Picture) -> Vec<u8> {
     let mut fields = BitWriter::new();
     fields.field(4, u32::from(EDITION));
     fields.field(4, u32::from(picture.block_size));

@@ -5,7 +5,7 @@ use crate::networks::{network, Size, SHAPES};
 use crate::picture::State;
 use crate::random::Random;
 use crate::tests::{choice_of, evidence_of};
-use crate::{check, evict, read, weigh, write, Picture};
+use crate::{check, evict, lists_of, pack, read, weigh, write, Picture};
 
 fn small_networks(seed: u64, count: usize) -> impl Iterator<Item = Picture> {
     let mut random = Random::new(seed);
@@ -86,7 +86,7 @@ fn is_candidate_by_words(picture: &Picture, block: usize) -> bool {
 #[test]
 fn weights_and_forests_follow_the_words() {
     for picture in small_networks(2, 1000) {
-        let bytes = write(&picture);
+        let bytes = pack(&picture);
         let evidence = evidence_of(&bytes);
         let length = 2 * picture.slots.len();
         let now = fewest_links(&picture, usize::MAX);
@@ -118,8 +118,11 @@ fn every_evidence_passes_and_every_choice_can_be_evicted() {
         .map(|(shape, size)| network(&mut random, shape, size))
         .collect();
     for picture in small_networks(3, 400).chain(large) {
-        let bytes = write(&picture);
+        let bytes = pack(&picture);
         assert_eq!(read(&bytes).as_ref(), Ok(&picture));
+        let mut written = vec![0xFF; bytes.len()];
+        assert_eq!(write(&lists_of(&picture), &mut written), Ok(bytes.len()));
+        assert_eq!(written, bytes);
         assert_eq!(check(&bytes, &evidence_of(&bytes)), Ok(()));
         for growth in GROWTHS {
             let foreign = foreign::evidence(&mut random, &picture, growth);

@@ -1,7 +1,7 @@
 //! The field examples of document 01, A to K and M, a larger network and the longest picture.
 
 use crate::networks::{dense_held, Size};
-use crate::picture::{write, Endpoint, Picture, Slot, State};
+use crate::picture::{pack, Endpoint, Picture, Slot, State};
 use crate::picture::{MAX_BLOCKS, MAX_ENDPOINTS, MAX_LINKS, MAX_SLOTS};
 use crate::random::Random;
 
@@ -139,10 +139,10 @@ pub fn small() -> Vec<Picture> {
 /// picture, and A with a byte too many.
 pub fn files() -> Vec<(String, Vec<u8>)> {
     let examples =
-        all().into_iter().map(|(letter, picture)| (letter.to_lowercase().to_string(), write(&picture)));
+        all().into_iter().map(|(letter, picture)| (letter.to_lowercase().to_string(), pack(&picture)));
     let others = [
-        ("larger".to_string(), write(&larger())),
-        ("longest".to_string(), write(&longest())),
+        ("larger".to_string(), pack(&larger())),
+        ("longest".to_string(), pack(&longest())),
         ("spare-byte".to_string(), [&A_BYTES[..], &[0]].concat()),
     ];
     examples.chain(others).collect()

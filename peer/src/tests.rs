@@ -2,12 +2,15 @@
 
 use crate::choice::evidence_bytes;
 use crate::picture::State;
-use crate::picture::{MAX_BLOCKS, MAX_BLOCK_SIZE, MAX_ENDPOINTS, MAX_LINKS, MAX_SLOTS};
+use crate::picture::{
+    MAX_BLOCKS, MAX_BLOCK_SIZE, MAX_ENDPOINTS, MAX_LINKS, MAX_PICTURE_BYTES, MAX_SLOTS,
+};
 use crate::samples::{all, case, case_a, files, longest, A_BYTES, A_EVIDENCE};
-use crate::{check, choose, evict, refusals, free, listing, read, reload, show, weigh, write, Picture};
+use crate::{check, choose, evict, free, listing, pack, read, refusals, reload, show, weigh, Picture};
+use crate::{lists_of, write, Lists};
 
 fn bytes_of(letter: char) -> Vec<u8> {
-    write(&case(letter))
+    pack(&case(letter))
 }
 
 pub fn evidence_of(picture: &[u8]) -> Vec<u8> {
@@ -29,7 +32,7 @@ pub fn choice_of(picture: &[u8]) -> (u32, Option<(u8, u32)>) {
 #[test]
 fn case_a_is_read_and_written() {
     assert_eq!(read(&A_BYTES), Ok(case_a()));
-    assert_eq!(write(&case_a()), A_BYTES);
+    assert_eq!(pack(&case_a()), A_BYTES);
 }
 
 #[test]
@@ -63,6 +66,16 @@ fn the_sample_files_are_the_samples() {
     }
 }
 
+/// What the C example `layout` is held to is case A: its bytes, their number, and the choice.
+#[test]
+fn the_lines_of_layout_are_case_a() {
+    let bytes = A_BYTES.map(|byte| format!("{byte:02X}")).join(" ");
+    let listed = listing(&A_BYTES);
+    let choice = listed.lines().last().expect("a line for the choice");
+    let lines = format!("{bytes}\n{} bytes\n{choice}\nstatus 0\n", A_BYTES.len());
+    assert_eq!(file("examples/layout.lines"), lines.into_bytes());
+}
+
 /// The header for C has the limits and the numbers that this implementation has.
 #[test]
 fn the_header_has_the_numbers() {
@@ -79,7 +92,7 @@ fn the_header_has_the_numbers() {
         ("BLOCKS_MAX", MAX_BLOCKS),
         ("ENDPOINTS_MAX", MAX_ENDPOINTS),
         ("LINKS_MAX", MAX_LINKS),
-        ("PICTURE_MAX", write(&longest()).len()),
+        ("PICTURE_MAX", pack(&longest()).len()),
         ("EVIDENCE_MAX", evidence_bytes(MAX_SLOTS, MAX_BLOCKS)),
     ];
     for (name, value) in sizes {
@@ -155,7 +168,7 @@ fn numbers_1_to_7_by_example() {
         bytes[place] = value;
         bytes
     };
-    let link_to_5 = write(&Picture { links: vec![(0, 1), (0, 2), (1, 3), (0, 5)], ..case_a() });
+    let link_to_5 = pack(&Picture { links: vec![(0, 1), (0, 2), (1, 3), (0, 5)], ..case_a() });
     let spare_byte = [&A_BYTES[..], &[0]].concat();
     let examples = [
         (refusals::SHORT, Vec::new()),
@@ -231,14 +244,14 @@ fn limits_are_those_of_the_document() {
 #[test]
 fn serving_without_endpoints_is_refused() {
     let picture = Picture { endpoints: Vec::new(), ..case_a() };
-    assert_eq!(read(&write(&picture)), Err(refusals::LINK));
+    assert_eq!(read(&pack(&picture)), Err(refusals::LINK));
 }
 
 #[test]
 fn acts_change_the_named_states_only() {
     let mut picture = Picture { near_limit: 4, ..case('K') };
     picture.slots[3].state = State::Freed;
-    let mut bytes = write(&picture);
+    let mut bytes = pack(&picture);
     assert_eq!(reload(&mut bytes, 1), Ok(()));
     picture.slots[2].state = State::Held;
     assert_eq!(read(&bytes), Ok(picture.clone()));
@@ -253,7 +266,7 @@ fn far_slots_are_reloaded_over_the_near_limit() {
     let mut picture = Picture { near_limit: 0, ..case('K') };
     picture.slots[2].near = false;
     picture.slots[3].near = false;
-    assert_eq!(reload(&mut write(&picture), 1), Ok(()));
+    assert_eq!(reload(&mut pack(&picture), 1), Ok(()));
 }
 
 #[test]
@@ -277,4 +290,148 @@ fn show_gives_the_chosen_section() {
     assert_eq!(show(&A_BYTES, &A_EVIDENCE), &A_EVIDENCE[30..43]);
     let none = evidence_of(&bytes_of('C'));
     assert_eq!(show(&bytes_of('C'), &none).as_ptr_range(), none[..0].as_ptr_range());
+}
+
+/// Case A's lists by its description.
+fn lists_a() -> Lists {
+    Lists {
+        block_size: 2,
+        near_limit: 2,
+        states: vec![0; 4],
+        near: vec![true; 4],
+        weights: vec![30, 12],
+        protected: vec![true, false],
+        links: vec![[0, 1], [0, 2], [1, 3], [0, 4]],
+        serving: vec![[1, 1], [2, 1], [4, 2]],
+    }
+}
+
+type Change = fn(&mut Lists);
+
+/// Case A's lists with a change.
+fn changed_a(change: Change) -> Lists {
+    let mut lists = lists_a();
+    change(&mut lists);
+    lists
+}
+
+/// What write answers with a buffer of this length, and the picture that it wrote.
+fn written(lists: &Lists, room: usize) -> Result<Vec<u8>, u8> {
+    // Ones, so that bits which the picture has as zeros are seen to be written.
+    let mut buffer = vec![0xFF; room];
+    let answer = write(lists, &mut buffer);
+    let kept = answer.unwrap_or(0);
+    assert!(buffer[kept..].iter().all(|byte| *byte == 0xFF), "bytes beyond stay");
+    buffer.truncate(kept);
+    answer.map(|_| buffer)
+}
+
+const ROOM: usize = MAX_PICTURE_BYTES + 11;
+
+#[test]
+fn lists_of_case_a_give_its_bytes() {
+    assert_eq!(lists_of(&case_a()), lists_a());
+    for room in [A_BYTES.len(), A_BYTES.len() + 1, ROOM] {
+        assert_eq!(written(&lists_a(), room), Ok(A_BYTES.to_vec()), "{room} bytes");
+    }
+    for room in 0..A_BYTES.len() {
+        assert_eq!(written(&lists_a(), room), Err(refusals::BUFFER), "{room} bytes");
+    }
+}
+
+#[test]
+fn every_sample_is_written_as_it_was_read() {
+    for (name, bytes) in files() {
+        if let Ok(picture) = read(&bytes) {
+            assert_eq!(written(&lists_of(&picture), bytes.len()), Ok(bytes), "{name}");
+        }
+    }
+    assert_eq!(pack(&longest()).len(), MAX_PICTURE_BYTES);
+}
+
+#[test]
+fn lists_are_refused_with_the_readers_numbers() {
+    let examples: [(u8, Change); 28] = [
+        (refusals::BLOCKS, |lists| lists.near.truncate(3)),
+        (refusals::BLOCKS, |lists| lists.near.push(true)),
+        (refusals::BLOCKS, |lists| lists.states.truncate(2)),
+        (refusals::BLOCKS, |lists| lists.states.resize(6, 0)),
+        (refusals::BLOCKS, |lists| lists.block_size = 0),
+        (refusals::BLOCKS, |lists| lists.block_size = 3),
+        (refusals::BLOCKS, |lists| lists.block_size = 16 + 2),
+        (refusals::BLOCKS, |lists| lists.block_size = u32::MAX),
+        (refusals::BLOCKS, |lists| set_slots(lists, 2, 0)),
+        (refusals::BLOCKS, |lists| set_slots(lists, 1, 61)),
+        (refusals::BLOCKS, |lists| set_slots(lists, 9, 9)),
+        (refusals::BLOCKS, |lists| set_slots(lists, 8, 248)),
+        (refusals::BLOCKS, |lists| set_slots(lists, 2, 256 + 4)),
+        (refusals::COUNTS, |lists| lists.protected.truncate(1)),
+        (refusals::COUNTS, |lists| lists.protected.push(true)),
+        (refusals::COUNTS, |lists| lists.weights.truncate(1)),
+        (refusals::COUNTS, |lists| lists.weights.push(1)),
+        (refusals::COUNTS, |lists| set_endpoints(lists, 201)),
+        (refusals::COUNTS, |lists| lists.links.resize(2001, [0, 1])),
+        (refusals::COUNTS, |lists| lists.serving.resize(2001, [1, 1])),
+        (refusals::STATE, |lists| lists.states[3] = 3),
+        (refusals::STATE, |lists| lists.states[0] = 4),
+        (refusals::LINK, |lists| lists.links[3][0] = 5),
+        (refusals::LINK, |lists| lists.links[3][1] = 256),
+        (refusals::LINK, |lists| lists.serving[0][0] = 256 + 1),
+        (refusals::LINK, |lists| lists.serving[0][1] = 0),
+        (refusals::LINK, |lists| lists.serving[2][1] = 3),
+        (refusals::LINK, |lists| set_endpoints(lists, 0)),
+    ];
+    for (row, (number, change)) in examples.into_iter().enumerate() {
+        for room in [0, A_BYTES.len(), ROOM] {
+            assert_eq!(written(&changed_a(change), room), Err(number), "row {row}, {room} bytes");
+        }
+    }
+}
+
+fn set_slots(lists: &mut Lists, block_size: u32, slots: usize) {
+    lists.block_size = block_size;
+    lists.states.resize(slots, 0);
+    lists.near.resize(slots, false);
+}
+
+fn set_endpoints(lists: &mut Lists, endpoints: usize) {
+    lists.weights.resize(endpoints, 0);
+    lists.protected.resize(endpoints, false);
+}
+
+#[test]
+fn lists_at_the_limits_are_written() {
+    let examples: [Change; 6] = [
+        |lists| set_slots(lists, 1, 60),
+        |lists| set_slots(lists, 8, 240),
+        |lists| set_endpoints(lists, 200),
+        |lists| lists.links.resize(2000, [4, 0]),
+        |lists| lists.serving.resize(2000, [0, 2]),
+        |lists| lists.near_limit = 255,
+    ];
+    for (row, change) in examples.into_iter().enumerate() {
+        let lists = changed_a(change);
+        let bytes = written(&lists, ROOM).unwrap_or_else(|number| panic!("row {row} gets {number}"));
+        assert_eq!(read(&bytes).map(|picture| lists_of(&picture)), Ok(lists), "row {row}");
+    }
+}
+
+/// Faults from the last to the first: the number of the first is told, whatever comes behind it.
+#[test]
+fn lists_are_judged_in_the_readers_order() {
+    let faults: [(u8, Change); 7] = [
+        (refusals::LINK, |lists| lists.serving[0] = [5, 3]),
+        (refusals::LINK, |lists| lists.links[0] = [65535, 65535]),
+        (refusals::STATE, |lists| lists.states[3] = 255),
+        (refusals::COUNTS, |lists| lists.serving.resize(2001, [5, 3])),
+        (refusals::COUNTS, |lists| lists.protected.clear()),
+        (refusals::BLOCKS, |lists| lists.block_size = 9),
+        (refusals::BLOCKS, |lists| lists.near.clear()),
+    ];
+    let mut lists = lists_a();
+    for (number, fault) in faults {
+        fault(&mut lists);
+        assert_eq!(written(&lists, ROOM), Err(number));
+        assert_eq!(written(&lists, 0), Err(number));
+    }
 }

@@ -9,7 +9,7 @@ use native.Mathlib.Omega.{arith}
 use native.Mathlib.Decide.{decLt}
 use native.Mathlib.Nat.{zero-add, mod-eq-of-lt, le-trans}
 use native.Mathlib.Numerals.{add-one, one-add}
-use lib.Dec.{T, eqb, leb}
+use lib.Dec.{T, eqb, leb, lit<}
 use borrow.Author.Tests.{leb-true, leb-false}
 use lib.ListN.{length, getD, take}
 use Rattle.bits.specs.Bits.{bitAt, fieldAt}
@@ -150,7 +150,7 @@ module _ (a : Act) (bs : List ℕ) (b : ℕ) (ok : pictureFault bs ≡ 0) (there
       s = slotOf p (suc i) .state
 
       small : after a s < 4
-      small = after-small a s (rw (state-at i l) (fieldAt-lt bs (stateAt edition1 i) 2))
+      small = after-small a s (lit< tt) (rw (state-at i l) (fieldAt-lt bs (stateAt edition1 i) 2))
 
       keep : (i < b * size) ⊎ (b * size + size ≤ i) → fieldAt new (stateAt edition1 i) 2 ≡ s
       keep o = field-beside edition1 states bs (stateAt edition1 i) 2 (b * size) size room (λ j m t. beside o j m t) ∙ sym (state-at i l)

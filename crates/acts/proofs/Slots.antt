@@ -1,19 +1,18 @@
 -- Laws of an act on a picture's lists: each slot of the block has its new state, and every other slot stays. Assumes nothing.
 use mathlib.Core.Path.{_≡_, refl, ap, _∙_}
 use mathlib.Core.Bool.{Bool, true, false, cond}
-use mathlib.Core.Logic.{_≢_}
 use Prim.Native.Nat.{ℕ, zero, suc, _+_, _*_, _≤_, _<_}
 use native.Mathlib.Omega.{arith}
 use native.Mathlib.Decide.{decLt}
 use native.Mathlib.Nat.{not-suc-le-zero}
 use native.Mathlib.Numerals.{one-add}
-use lib.Dec.{T, eqb, leb, leb→le, le→leb, lit<}
+use lib.Dec.{T, eqb, leb, leb→le, le→leb}
 use lib.ListN.{length-map}
 use Rattle.lists.specs.Lists.{range, item}
 use Rattle.lists.proofs.Tests.{and-T, T-and}
 use Rattle.lists.proofs.Ranges.{length-range, getD-map-range}
 use Rattle.picture.proofs.Starts.{slot-past}
-use Rattle.picture.specs.Layout.{noState}
+use Rattle.picture.specs.Layout.{stateMax}
 use Rattle.picture.specs.Picture.{Picture, Slot, slotOf}
 use Rattle.network.specs.Words.{slotCount, inBlock}
 use Rattle.acts.specs.declared.Act.{Act}
@@ -29,35 +28,20 @@ freed-stays Evict = refl
 freed-stays Reload = refl
 freed-stays Free = refl
 
--- a field of two bits stays one
-pub after-small : (a : Act) (s : ℕ) → s < 4 → after a s < 4
+-- a state below a bound that all three states keep stays below it
+pub after-small : (a : Act) (s : ℕ) {m : ℕ} → stateMax < m → s < m → after a s < m
 unfolding after
-after-small Evict s h = go (eqb s 0)
+after-small Evict s {m} w h = go (eqb s 0)
   where
-    go : (b : Bool) → cond b 1 s < 4
-    go true = lit< tt
+    go : (b : Bool) → cond b 1 s < m
+    go true = omega arith
     go false = h
-after-small Reload s h = go (eqb s 1)
+after-small Reload s {m} w h = go (eqb s 1)
   where
-    go : (b : Bool) → cond b 0 s < 4
-    go true = lit< tt
+    go : (b : Bool) → cond b 0 s < m
+    go true = omega arith
     go false = h
-after-small Free s h = lit< tt
-
--- a state that is one of the three stays one of them
-pub after-known : (a : Act) (s : ℕ) → s ≢ noState → after a s ≢ noState
-unfolding after
-after-known Evict s h = go (eqb s 0)
-  where
-    go : (b : Bool) → cond b 1 s ≢ noState
-    go true e = absurd (omega arith)
-    go false e = h e
-after-known Reload s h = go (eqb s 1)
-  where
-    go : (b : Bool) → cond b 0 s ≢ noState
-    go true e = absurd (omega arith)
-    go false e = h e
-after-known Free s h = λ e. absurd (omega arith)
+after-small Free s w h = w
 
 -- ---- the slots of a block
 
@@ -99,8 +83,8 @@ near-acted a p b (suc i) = go (decLt i (slotCount p))
     go (no l) = rw (slot-past (actOn a p b) i (omega (arith, slots-acted a p b)), slot-past p i (omega arith))
 
 -- the states are known where they were
-pub states-known : (a : Act) (p : Picture) (b : ℕ) → ((v : ℕ) → 1 ≤ v → v ≤ slotCount p → slotOf p v .state ≢ noState)
-    → (v : ℕ) → 1 ≤ v → v ≤ slotCount p → slotOf (actOn a p b) v .state ≢ noState
+pub states-known : (a : Act) (p : Picture) (b : ℕ) → ((v : ℕ) → 1 ≤ v → v ≤ slotCount p → slotOf p v .state ≤ stateMax)
+    → (v : ℕ) → 1 ≤ v → v ≤ slotCount p → slotOf (actOn a p b) v .state ≤ stateMax
 unfolding slotAfter
 states-known a p b k zero l m = absurd (not-suc-le-zero l)
 states-known a p b k (suc i) l m = rw (slot-acted a p b i m) (go (inBlock p b (suc i)))
@@ -108,6 +92,9 @@ states-known a p b k (suc i) l m = rw (slot-acted a p b i m) (go (inBlock p b (s
     s : ℕ
     s = slotOf p (suc i) .state
 
-    go : (x : Bool) → cond x (after a s) s ≢ noState
-    go true = after-known a s (k (suc i) l m)
-    go false = k (suc i) l m
+    known : s ≤ stateMax
+    known = k (suc i) l m
+
+    go : (x : Bool) → cond x (after a s) s ≤ stateMax
+    go true = omega (arith, after-small a s {m = 3} (omega arith) (omega (arith, known)))
+    go false = known

@@ -1,23 +1,29 @@
--- The length that choose answers is small. Assumes nothing.
-use mathlib.Core.Path.{_≡_, refl, ap, subst}
-use mathlib.Core.List.{List}
-use Prim.Native.Nat.{ℕ, zero, suc, _≤_, zero-le}
+-- The lengths that choose and write answer are small. Assumes nothing.
+use mathlib.Core.Path.{_≡_}
+use mathlib.Core.List.{List, [], _∷_}
+use Prim.Native.Nat.{ℕ, zero, suc, _^_, _<_}
+use native.Mathlib.Omega.{arith}
+use Rattle.lists.specs.Lists.{outcome}
 use Rattle.lists.proofs.Faults.{first-zero}
-use Rattle.evidence.specs.Layout.{evidenceMax}
 use Rattle.evidence.specs.Calls.{lengthFor, chooseFault}
 use Rattle.evidence.proofs.Lengths.{length-most}
-use Rattle.choose.specs.declared.Choosing.{Choosing}
-use Rattle.choose.specs.declared.Choosing.the-variants.{Length, Refused}
-use Rattle.choose.specs.Answers.{choosing, choosingOf}
+use Rattle.write.specs.Columns.{Lists}
+use Rattle.write.specs.Rules.{sizeFor}
+use Rattle.write.specs.Faults.{writeFault}
+use Rattle.write.proofs.Judging.{size-most}
 
-lengthIn : Choosing → ℕ
-lengthIn (Length k) = k
-lengthIn (Refused k) = 0
+-- a value is told where there is no fault
+told : (x n k : ℕ) → 0 ∷ k ∷ [] ≡ outcome x (n ∷ []) → (x ≡ 0) × (k ≡ n)
+unfolding outcome
+told zero n k e = (cc, cc)
+told (suc x) n k e = let z : _≡_ {A = ℕ} 0 (suc x) = cc in absurd (omega arith)
 
-pub told-small : (bs buf : List ℕ) (k : ℕ) → choosing bs buf ≡ Length k → k ≤ evidenceMax
-unfolding choosing choosingOf lengthIn
-told-small bs buf k e = subst (λ (n : ℕ). n ≤ evidenceMax) (ap lengthIn e) (go (chooseFault bs buf) refl)
-  where
-    go : (x : ℕ) → chooseFault bs buf ≡ x → lengthIn (choosingOf x (lengthFor bs)) ≤ evidenceMax
-    go zero z = length-most bs (unfold chooseFault in first-zero _ z 0)
-    go (suc x) _ = zero-le
+pub chosen-small : (bs buf : List ℕ) (k : ℕ) → 0 ∷ k ∷ [] ≡ outcome (chooseFault bs buf) (lengthFor bs ∷ []) → k < 2 ^ 31
+chosen-small bs buf k e =
+    let t = told (chooseFault bs buf) (lengthFor bs) k e in
+    omega (arith, length-most bs (unfold chooseFault in first-zero _ (t .0) 0))
+
+pub written-small : (l : Lists) (buf : List ℕ) (k : ℕ) → 0 ∷ k ∷ [] ≡ outcome (writeFault l buf) (sizeFor l ∷ []) → k < 2 ^ 31
+written-small l buf k e =
+    let t = told (writeFault l buf) (sizeFor l) k e in
+    omega (arith, size-most l buf (t .0))

@@ -1,7 +1,7 @@
 -- A refusal's number in 32 bits with a sign. Assumes nothing.
 use mathlib.Core.Path.{_≡_, refl, ap, _∙_, subst, sym}
 use mathlib.Core.Bool.{Bool, cond}
-use mathlib.Core.List.{[], _∷_}
+use mathlib.Core.List.{List, [], _∷_}
 use Prim.Native.Nat.{ℕ, zero, suc, _-_, _<_}
 use native.Mathlib.Omega.{arith}
 use borrow.Author.Tests.{lt-ltb}
@@ -48,3 +48,11 @@ pub refused-number : (k : ℕ) → negℤ (pos k) ≡ toC (k ∷ [])
 unfolding toC
 refused-number zero = refl
 refused-number (suc k) = refl
+
+-- a length is handed on as it is, and a refusal as minus its number
+pub length-told : {z : ℤ} {k : ℕ} {vs : List ℕ} → SFits w32 z → z ≡ pos k → 0 ∷ k ∷ [] ≡ vs → toZ w32 (ofZ w32 z) ≡ toC vs
+unfolding toC
+length-told f e s = passed-on f (e ∙ ap toC s) .0
+
+pub refusal-told : {z : ℤ} {k : ℕ} {vs : List ℕ} → SFits w32 z → z ≡ negℤ (pos k) → k ∷ [] ≡ vs → toZ w32 (ofZ w32 z) ≡ toC vs
+refusal-told {k = k} f e s = passed-on f (e ∙ refused-number k ∙ ap toC s) .0

@@ -1,20 +1,21 @@
 // The calls for C: each is one call of the library, and answers one number.
 ghost use mathlib.Core.Path.{_≡_};
-ghost use Prim.Native.Nat.{_≤_};
+ghost use Prim.Native.Nat.{_^_, _<_};
 ghost use lib.IntN.{pos, negℤ};
 ghost use mir.Syntax.{w32};
 ghost use mir.Val.{SFits};
-ghost use Rattle.evidence.specs.Layout.{evidenceMax};
 ghost use Rattle.evidence.specs.Calls.{chosenBytes};
 ghost use Rattle.choose.specs.Answers.{choosing, choosingNumbers};
 ghost use Rattle.checker.specs.Answers.{checking, checkingNumbers};
 ghost use Rattle.acts.specs.declared.Act.the-variants.{Evict, Reload, Free};
 ghost use Rattle.acts.specs.Faults.{acting, actBytes};
 ghost use Rattle.acts.specs.Acts.{actingNumbers};
-ghost use Rattle.blockplan_c.specs.Answers.{toC};
+ghost use Rattle.write.specs.Columns.{handed};
+ghost use Rattle.blockplan_c.specs.Answers.{toC, WritesForC};
 use acts::Acting;
 use checker::Checking;
 use choose::Choosing;
+use write::Writing;
 
 // A refusal is minus its number.
 fn refusal(number: u8) -> i32
@@ -24,9 +25,9 @@ fn refusal(number: u8) -> i32
     -(number as i32)
 }
 
-// A length of evidence.
+// A length of evidence or of a picture.
 fn length_number(length: usize) -> i32
-    requires { ⌜ length ≤ evidenceMax ⌝ }
+    requires { ⌜ length < 2 ^ 31 ⌝ }
     ensures number { λ r. ⌜ r ≡ pos length ⌝ }
     ensures fits { λ r. ⌜ SFits w32 r ⌝ }
 {
@@ -100,4 +101,37 @@ pub extern "C" fn blockplan_free(picture: &mut [u8], block: u32) -> i32
     ensures bytes { λ r. ⌜ now (picture .exit) ≡ actBytes Free (now (picture .entry)) block ⌝ }
 {
     acting_number(acts::free(picture, block))
+}
+
+// Writes a picture from lists: its length, or minus the number of the first fault.
+#[no_mangle]
+pub extern "C" fn blockplan_write(
+    block_size: u32,
+    near_limit: u8,
+    states: &[u8],
+    is_near: &[bool],
+    weights: &[u16],
+    is_protected: &[bool],
+    links: &[[u16; 2]],
+    service_links: &[[u16; 2]],
+    picture: &mut [u8],
+) -> i32
+    ensures { λ r.
+        ⌜ WritesForC (handed «block_size» «near_limit» (now (states .entry)) (now («is_near» .entry)) (now (weights .entry)) (now («is_protected» .entry)) (now (links .entry)) (now («service_links» .entry)))
+        (now (picture .entry)) r (now (picture .exit)) ⌝ }
+{
+    match write::write(
+        block_size,
+        near_limit,
+        states,
+        is_near,
+        weights,
+        is_protected,
+        links,
+        service_links,
+        picture,
+    ) {
+        Writing::Length(length) => length_number(length),
+        Writing::Refused(number) => refusal(number),
+    }
 }

@@ -1,5 +1,4 @@
 -- Laws of choosing.
-pub mod Writing
 pub mod Nodes
 pub mod Sections
 pub mod Gathering

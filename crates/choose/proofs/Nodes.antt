@@ -9,6 +9,7 @@ use lib.ListN.{length, getD, set, length-set, length-map}
 use Rattle.lists.specs.Lists.{range, item, flat}
 use Rattle.lists.proofs.Ranges.{length-range, getD-map-range}
 use Rattle.lists.proofs.Growing.{range-more, map-append, flat-map-more}
+use Rattle.packing.specs.Packing.{fieldsOf}
 use Rattle.packing.specs.Holding.{span, Put}
 use Rattle.packing.proofs.Putting.{put-none, put-one-byte, put-behind, put-same}
 use Rattle.graph.specs.Chains.{Entry}
@@ -24,7 +25,7 @@ use Rattle.network.specs.Words.{slotCount, joins}
 use Rattle.network.proofs.Named.{accepted-named}
 use Rattle.network.proofs.Blocks.{read-slots}
 use Rattle.evidence.specs.Layout.{nodeWidths}
-use Rattle.evidence.specs.Canonical.{fieldsOf, nodeFields, forestFields, forestOf}
+use Rattle.evidence.specs.Canonical.{nodeFields, forestFields, forestOf}
 use Rattle.evidence.proofs.Places.{forest-whole}
 use Rattle.evidence.proofs.Fields.{nodes-span}
 use Rattle.choose.specs.Writing.{nodesIn}

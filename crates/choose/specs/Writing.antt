@@ -3,13 +3,13 @@ use mathlib.Core.List.{List, [], _∷_, _++_, map}
 use Prim.Native.Nat.{ℕ, _+_, _*_, _^_, _≤_, _<_}
 use lib.ListN.{length, getD}
 use Rattle.lists.specs.Lists.{range, sum}
-use Rattle.packing.specs.Packing.{Field}
+use Rattle.packing.specs.Packing.{Field, fieldsOf}
 use Rattle.graph.specs.declared.Node.{Node}
 use Rattle.picture.specs.Layout.{edition1}
 use Rattle.network.specs.declared.Cost.{Cost}
 use Rattle.evidence.specs.Layout.{headWidths, sectionWidths, sectionBytes, evidenceMax}
 use Rattle.evidence.specs.declared.Choice.{Choice}
-use Rattle.evidence.specs.Canonical.{fieldsOf, forestFields}
+use Rattle.evidence.specs.Canonical.{forestFields}
 
 -- the nodes of the slots 1 to n, in arrays that start at location 0
 unfoldable pub nodesIn : List ℕ → List ℕ → ℕ → List Node

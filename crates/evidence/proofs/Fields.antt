@@ -9,7 +9,7 @@ use lib.ListN.{length, getD}
 use Rattle.lists.specs.Lists.{range, sum, flat}
 use Rattle.lists.proofs.Filters.{length-filter-le}
 use Rattle.lists.proofs.Ranges.{length-range}
-use Rattle.packing.specs.Packing.{Field}
+use Rattle.packing.specs.Packing.{Field, fieldsOf}
 use Rattle.packing.specs.Holding.{span, Fit}
 use Rattle.packing.proofs.Fields.{span-append, fit-append, fit-flat, span-flat}
 use Rattle.packing.proofs.Packed.{length-packed}
@@ -31,7 +31,7 @@ use Rattle.network.proofs.Candidates.{candidates-below}
 use Rattle.network.proofs.Blocks.{read-blocks}
 use Rattle.evidence.specs.Layout.{headWidths, nodeWidths, sectionWidths, forestBits, sectionBits, sectionAt, evidenceBytes}
 use Rattle.evidence.specs.declared.Choice.{Choice}
-use Rattle.evidence.specs.Canonical.{noCost, weighings, least, fieldsOf, headFields, nodeFields, forestFields, forestOf, sectionFields, evidenceFields, evidenceOf}
+use Rattle.evidence.specs.Canonical.{noCost, weighings, least, headFields, nodeFields, forestFields, forestOf, sectionFields, evidenceFields, evidenceOf}
 use Rattle.evidence.specs.Calls.{lengthFor}
 use Rattle.evidence.proofs.Least.{least-right}
 use Rattle.evidence.proofs.Weighings.{weighings-length, weighing-at}

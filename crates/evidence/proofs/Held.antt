@@ -1,14 +1,14 @@
 -- Bytes that hold the fields of a picture's evidence say what the evidence does: field by field, and forest by forest. Assumes nothing.
 use mathlib.Core.Path.{_≡_, sym, _∙_}
 use mathlib.Core.List.{List, [], _∷_, _++_}
-use Prim.Native.Nat.{ℕ, zero, suc, _+_, _*_, _<_}
+use Prim.Native.Nat.{ℕ, _+_, _*_, _<_}
 use native.Mathlib.Omega.{arith}
-use native.Mathlib.Nat.{add-zero, add-assoc, zero-add, not-suc-le-zero, le-of-suc-le-suc}
+use native.Mathlib.Nat.{zero-add}
 use lib.Dec.{lit<}
-use lib.ListN.{length, getD, take}
+use lib.ListN.{length, getD}
 use lib.Seq.{ext-getD}
 use Rattle.lists.specs.Lists.{sum}
-use Rattle.packing.specs.Packing.{Field}
+use Rattle.packing.specs.Packing.{Field, fieldsOf}
 use Rattle.packing.specs.Holding.{span, Holds}
 use Rattle.packing.proofs.Fields.{holds-append, holds-flat}
 use Rattle.packing.proofs.Packed.{packed-holds}
@@ -17,25 +17,16 @@ use Rattle.picture.specs.Layout.{Edition, editionOf, fieldIn}
 use Rattle.picture.specs.Picture.{Picture, pictureOf, rows}
 use Rattle.picture.specs.Faults.{pictureFault}
 use Rattle.picture.proofs.Starts.{length-rows, row-at}
+use Rattle.picture.proofs.Fields.{fields-read}
 use Rattle.network.specs.Words.{slotCount, isHeld, heldWithout}
 use Rattle.network.specs.declared.Cost.{Cost}
 use Rattle.network.specs.Tests.{weighed, servedWeight, candidates}
 use Rattle.network.proofs.Weights.{weighed-block}
 use Rattle.evidence.specs.Layout.{headWidths, nodeWidths, sectionWidths, sectionBits, sectionAt, forestAt}
-use Rattle.evidence.specs.Canonical.{noCost, weighings, least, fieldsOf, headFields, nodeFields, forestFields, forestOf, sectionFields, evidenceFields, evidenceOf}
+use Rattle.evidence.specs.Canonical.{noCost, weighings, least, headFields, nodeFields, forestFields, forestOf, sectionFields, evidenceFields, evidenceOf}
 use Rattle.evidence.specs.Contents.{headIn, sectionIn, nodeAt, forestIn, firstForest, sectionForest}
 use Rattle.evidence.proofs.Weighings.{weighings-length, weighing-at}
 use Rattle.evidence.proofs.Fields.{noNode, head-of, nodes-of, sections-of, node-span, head-span, length-forest-of, forest-span, section-span, evidence-fits}
-
--- ---- values with their widths
-
-pub fields-read : (ev ws vs : List ℕ) (q : ℕ) → Holds ev q (fieldsOf ws vs) → (k : ℕ) → k < length ws → k < length vs → fieldIn ev ws q k ≡ getD vs k 0
-unfolding fieldsOf Holds fieldIn sum
-fields-read ev [] vs q h k s t = absurd (not-suc-le-zero s)
-fields-read ev (w ∷ ws) [] q h k s t = absurd (not-suc-le-zero t)
-fields-read ev (w ∷ ws) (v ∷ vs) q h zero s t = rw add-zero (h .0)
-fields-read ev (w ∷ ws) (v ∷ vs) q h (suc k) s t =
-    rw (← add-assoc q w (sum (take k ws))) (fields-read ev ws vs (q + w) (h .1) k (le-of-suc-le-suc s) (le-of-suc-le-suc t))
 
 -- ---- a forest
 

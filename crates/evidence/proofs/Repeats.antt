@@ -4,13 +4,14 @@ use mathlib.Core.List.{List, [], _∷_, _++_, map}
 use lib.ListN.{length}
 use Rattle.lists.specs.Lists.{flat}
 use Rattle.graph.specs.Rounds.{forest}
+use Rattle.packing.specs.Packing.{fieldsOf}
 use Rattle.picture.specs.Layout.{Edition}
 use Rattle.picture.specs.Picture.{Picture}
 use Rattle.network.specs.declared.Cost.{Cost}
 use Rattle.network.specs.Repeats.{Repeated}
 use Rattle.network.proofs.Repeats.{same-slots, same-held, same-left, repeated-links, repeated-served-weight, repeated-weighed, repeated-candidates}
 use Rattle.evidence.specs.Layout.{sectionWidths}
-use Rattle.evidence.specs.Canonical.{weighings, least, fieldsOf, headFields, forestFields, forestOf, sectionFields, evidenceFields}
+use Rattle.evidence.specs.Canonical.{weighings, least, headFields, forestFields, forestOf, sectionFields, evidenceFields}
 
 pub repeated-evidence : {p q : Picture} → Repeated p q → (e : Edition) → evidenceFields e p ≡ evidenceFields e q
 unfolding evidenceFields sectionFields forestOf weighings

@@ -5,7 +5,7 @@ use Prim.Native.Nat.{ℕ, _+_}
 use lib.Dec.{eqb, ltb}
 use lib.ListN.{length}
 use Rattle.lists.specs.Lists.{flat}
-use Rattle.packing.specs.Packing.{Field, packed}
+use Rattle.packing.specs.Packing.{Field, fieldsOf, packed}
 use Rattle.graph.specs.declared.Node.{Node}
 use Rattle.graph.specs.Rounds.{forest}
 use Rattle.picture.specs.Layout.{Edition, editionOf}
@@ -49,12 +49,6 @@ unfoldable pub choice : Picture → Choice
 choice p = least (weighings p)
 
 -- ---- the fields of the evidence, in their order
-
--- values with their widths
-unfoldable pub fieldsOf : List ℕ → List ℕ → List Field
-fieldsOf [] vs = []
-fieldsOf (w ∷ ws) [] = []
-fieldsOf (w ∷ ws) (v ∷ vs) = record { width = w; value = v } ∷ fieldsOf ws vs
 
 -- the head: edition, verdict, block, candidate count, served weight, loss
 unfoldable pub headFields : Edition → Choice → ℕ → ℕ → List Field

@@ -1,6 +1,7 @@
 -- Every row of the table is right, by computation. Assumes nothing.
 use mathlib.Core.Path.{_≡_}
 use mathlib.Core.Bool.{Bool}
+use mathlib.Core.List.{zipWith}
 use Prim.Native.Nat.{ℕ, _<_}
 use lib.Dec.{T}
 use lib.ListN.{length, getD}
@@ -10,15 +11,15 @@ use Rattle.lists.proofs.Tests.{all-at, equal-same}
 use Rattle.picture.specs.Layout.{headerWidths, slotWidths, endpointWidths, linkWidths, serviceLinkWidths, fieldIn, slotsAt, endpointsAt, linksAt, serviceLinksAt, endAt, sizeOf}
 use Rattle.picture.specs.Picture.{headerIn, slotAt, endpointAt, linkAt, rows, pictureWith, headerOf, pictureOf, slotOf, endpointOf}
 use Rattle.picture.specs.Answers.{headerValues, readingNumbers}
-use Rattle.picture.specs.Faults.{sizesRight, countsRight, slotFault, linkFault, serviceLinkFault, endRight, bodyFaults, faultsWith, pictureFault, readingOf, reading}
+use Rattle.picture.specs.Faults.{sizesRight, countsRight, stateFault, linkFault, serviceLinkFault, listFaults, endRight, bodyFaults, faultsWith, pictureFault, readingOf, reading}
 use Rattle.graph.specs.Rounds.{further, within, reachedIn, levels, depthIn, reachedBy, nodeIn, forest}
 use Rattle.network.specs.Words.{slotCount, endpointCount, blockCount, inBlock, isHeld, heldWithout, joins, weightOf}
 use Rattle.network.specs.Tests.{marks, served, cut, weightWhere, servedWeight, weighed, isCandidate, candidates, isNearHeld}
 use Rattle.weigh.specs.Weighing.{blockFault, weighFault, weightsOf, weighingOf, weighing, weightValues, weighingNumbers}
-use Rattle.packing.specs.Packing.{digits, bits, bytesOf, packed}
+use Rattle.packing.specs.Packing.{fieldsOf, digits, bits, bytesOf, packed}
 use Rattle.graph.specs.Kept.{nodeOf}
 use Rattle.evidence.specs.Layout.{headWidths, nodeWidths, sectionWidths, forestBits, sectionBits, sectionBytes, sectionAt, forestAt, evidenceBytes}
-use Rattle.evidence.specs.Canonical.{weighings, bettered, bettering, least, choice, fieldsOf, headFields, nodeFields, forestFields, forestOf, sectionFields, evidenceFields, evidenceOf}
+use Rattle.evidence.specs.Canonical.{weighings, bettered, bettering, least, choice, headFields, nodeFields, forestFields, forestOf, sectionFields, evidenceFields, evidenceOf}
 use Rattle.evidence.specs.Contents.{headIn, sectionIn, nodeAt, forestIn, firstForest, sectionForest}
 use Rattle.evidence.specs.Checks.{isIn, nodeRight, linkRight, forestRight, formRight, sectionFault, verdictRight, checkFault}
 use Rattle.evidence.specs.Calls.{lengthFor, chooseFault, chosenBytes, shownPart, shown}
@@ -26,14 +27,19 @@ use Rattle.choose.specs.Answers.{choosingOf, choosing, choosingNumbers}
 use Rattle.checker.specs.Answers.{checkingOf, checking, checkingNumbers}
 use Rattle.acts.specs.Faults.{changes, cutFault, nearFault, actFault, actBytes, actingOf, acting}
 use Rattle.acts.specs.Acts.{after, blockSlots, recoverableNear, nearAfter, stateAt, putStates, doneBytes, actingNumbers}
+use Rattle.write.specs.Columns.{handed, slotFrom, endpointFrom, linkFrom, pictureFrom, headerFor, pairOf, listsOf}
+use Rattle.write.specs.Fields.{headerFields, slotFields, endpointFields, linkFields, pictureFields, pictureBytes}
+use Rattle.write.specs.Rules.{sizeFor}
+use Rattle.write.specs.Faults.{handedFaults, writeFault}
+use Rattle.write.specs.Answers.{writingOf, writing, writingNumbers, writtenBytes}
 use Rattle.listing.specs.Decimal.{places, decimal}
 use Rattle.listing.specs.Listing.{servedWord, blockWord, lostWord, markWord, chooseWord, noneWord, refusedWord, lineEnd, item as listItem, servedLine, blockLine, choiceLine, refusedLine, planLines, listingOf, listing}
-use Rattle.examples.specs.Cases.{evidenceA, linesA, caseA, caseB, caseC, caseD, caseE, caseF, caseG, caseH, caseI, caseJ, caseK, caseM}
+use Rattle.examples.specs.Cases.{evidenceA, linesA, listsWith, listsA, caseA, caseB, caseC, caseD, caseE, caseF, caseG, caseH, caseI, caseJ, caseK, caseM}
 use Rattle.examples.specs.Table.{answer, Row, slotsOnly, freedA, table}
 
 -- its line names all that the examples compute through
 passes : Row → Bool
-unfolding bitAt number fieldAt range on first sum equal item all headerWidths slotWidths endpointWidths linkWidths serviceLinkWidths fieldIn slotsAt endpointsAt linksAt serviceLinksAt endAt sizeOf headerIn slotAt endpointAt linkAt rows pictureWith headerOf pictureOf slotOf endpointOf sizesRight countsRight slotFault linkFault serviceLinkFault endRight bodyFaults faultsWith pictureFault any further within reachedIn slotCount endpointCount blockCount inBlock isHeld heldWithout joins weightOf marks served cut weightWhere servedWeight weighed blockFault weighFault weightsOf weighingOf weighing lowest filter place flat levels depthIn reachedBy nodeIn forest isCandidate candidates digits bits bytesOf packed nodeOf headWidths nodeWidths sectionWidths forestBits sectionBits sectionAt evidenceBytes weighings least choice fieldsOf headFields nodeFields forestFields forestOf sectionFields evidenceFields evidenceOf headIn sectionIn nodeAt forestIn firstForest sectionForest isIn nodeRight linkRight forestRight formRight sectionFault verdictRight checkFault lengthFor chooseFault chosenBytes shownPart shown headerValues readingOf reading readingNumbers choosingOf choosing choosingNumbers checkingOf checking checkingNumbers actingOf acting actingNumbers bettered bettering sectionBytes forestAt freedA setBit putField isNearHeld after blockSlots changes cutFault recoverableNear nearAfter nearFault actFault stateAt putStates doneBytes actBytes evidenceA caseA caseB caseC caseD caseE caseF caseG caseH caseI caseJ caseK caseM places decimal servedWord blockWord lostWord markWord chooseWord noneWord refusedWord lineEnd listItem servedLine blockLine choiceLine refusedLine planLines listingOf listing linesA weightValues weighingNumbers answer slotsOnly
+unfolding bitAt number fieldAt range on first sum equal item all headerWidths slotWidths endpointWidths linkWidths serviceLinkWidths fieldIn slotsAt endpointsAt linksAt serviceLinksAt endAt sizeOf headerIn slotAt endpointAt linkAt rows pictureWith headerOf pictureOf slotOf endpointOf sizesRight countsRight stateFault linkFault serviceLinkFault listFaults endRight bodyFaults faultsWith pictureFault any further within reachedIn slotCount endpointCount blockCount inBlock isHeld heldWithout joins weightOf marks served cut weightWhere servedWeight weighed blockFault weighFault weightsOf weighingOf weighing lowest filter place flat levels depthIn reachedBy nodeIn forest isCandidate candidates digits bits bytesOf packed nodeOf headWidths nodeWidths sectionWidths forestBits sectionBits sectionAt evidenceBytes weighings least choice fieldsOf headFields nodeFields forestFields forestOf sectionFields evidenceFields evidenceOf headIn sectionIn nodeAt forestIn firstForest sectionForest isIn nodeRight linkRight forestRight formRight sectionFault verdictRight checkFault lengthFor chooseFault chosenBytes shownPart shown headerValues readingOf reading readingNumbers choosingOf choosing choosingNumbers checkingOf checking checkingNumbers actingOf acting actingNumbers bettered bettering sectionBytes forestAt freedA setBit putField isNearHeld after blockSlots changes cutFault recoverableNear nearAfter nearFault actFault stateAt putStates doneBytes actBytes evidenceA caseA caseB caseC caseD caseE caseF caseG caseH caseI caseJ caseK caseM places decimal servedWord blockWord lostWord markWord chooseWord noneWord refusedWord lineEnd listItem servedLine blockLine choiceLine refusedLine planLines listingOf listing linesA weightValues weighingNumbers handed slotFrom endpointFrom linkFrom pictureFrom headerFor pairOf listsOf headerFields slotFields endpointFields linkFields pictureFields pictureBytes sizeFor handedFaults writeFault writingOf writing writingNumbers writtenBytes zipWith listsWith listsA answer slotsOnly
 passes r = equal (answer (r .question)) (r .says)
 
 tested : T (all passes table)

@@ -1,11 +1,23 @@
 -- The pictures of document 01, "Field examples": A, and its variants. Assumes nothing.
+use mathlib.Core.Bool.{Bool, true, false}
 use mathlib.Core.List.{List, [], _∷_}
 use Prim.Native.Nat.{ℕ}
+use Rattle.write.specs.Columns.{Lists, handed}
 
 -- A: block size 2, four slots, near limit 2, all held and near; endpoint 1 weighs 30 and is protected, endpoint 2 weighs 12; links 0-1,
 -- 0-2, 1-3, 0-4; service links 1-1, 2-1, 4-2
 unfoldable pub caseA : List ℕ
 caseA = 0x12 ∷ 0x04 ∷ 0x02 ∷ 0x02 ∷ 0x00 ∷ 0x40 ∷ 0x03 ∷ 0x24 ∷ 0x90 ∷ 0x01 ∷ 0xE8 ∷ 0x00 ∷ 0x60 ∷ 0x00 ∷ 0x04 ∷ 0x00 ∷ 0x08 ∷ 0x04 ∷ 0x0C ∷ 0x00 ∷ 0x10 ∷ 0x04 ∷ 0x04 ∷ 0x08 ∷ 0x04 ∷ 0x10 ∷ 0x08 ∷ []
+
+-- A's lists, with these columns of near slots and of protected endpoints
+unfoldable pub listsWith : List Bool → List Bool → Lists
+listsWith near protected =
+    handed 2 2 (0 ∷ 0 ∷ 0 ∷ 0 ∷ []) near (30 ∷ 12 ∷ []) protected
+    ((0 ∷ 1 ∷ []) ∷ (0 ∷ 2 ∷ []) ∷ (1 ∷ 3 ∷ []) ∷ (0 ∷ 4 ∷ []) ∷ []) ((1 ∷ 1 ∷ []) ∷ (2 ∷ 1 ∷ []) ∷ (4 ∷ 2 ∷ []) ∷ [])
+
+-- A's lists as they are
+unfoldable pub listsA : Lists
+listsA = listsWith (true ∷ true ∷ true ∷ true ∷ []) (true ∷ false ∷ [])
 
 -- B: endpoint 1 unprotected
 unfoldable pub caseB : List ℕ

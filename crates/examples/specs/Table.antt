@@ -1,8 +1,10 @@
 -- One table of worked examples: each row is a question about some bytes and the numbers that document 01 says. What a call answers is told by
 -- 01's number and values, and a buffer by all of its bytes. Assumes nothing.
+use mathlib.Core.Bool.{true, false}
 use mathlib.Core.List.{List, [], _∷_, _++_}
 use Prim.Native.Nat.{ℕ}
 use lib.ListN.{set, take, drop, replicate}
+use Rattle.picture.specs.Picture.{pictureOf}
 use Rattle.picture.specs.Faults.{reading}
 use Rattle.picture.specs.Answers.{readingNumbers}
 use Rattle.weigh.specs.Weighing.{weighing, weighingNumbers}
@@ -14,8 +16,10 @@ use Rattle.acts.specs.declared.Act.{Act}
 use Rattle.acts.specs.declared.Act.the-variants.{Evict, Reload, Free}
 use Rattle.acts.specs.Faults.{acting, actBytes}
 use Rattle.acts.specs.Acts.{actingNumbers}
+use Rattle.write.specs.Columns.{Lists, handed, listsOf}
+use Rattle.write.specs.Answers.{writing, writingNumbers, writtenBytes}
 use Rattle.listing.specs.Listing.{listing}
-use Rattle.examples.specs.Cases.{evidenceA, caseA, caseB, caseC, caseD, caseE, caseF, caseG, caseH, caseI, caseJ, caseK, caseM, linesA}
+use Rattle.examples.specs.Cases.{evidenceA, listsWith, listsA, caseA, caseB, caseC, caseD, caseE, caseF, caseG, caseH, caseI, caseJ, caseK, caseM, linesA}
 
 -- what is asked
 pub data Question : Type 0 where
@@ -33,6 +37,8 @@ pub data Question : Type 0 where
   list : List ℕ → Question
   -- what an act answers, and the picture's bytes at exit
   act : Act → List ℕ → ℕ → Question
+  -- what writing lists answers with a buffer, and the buffer at exit
+  write : Lists → List ℕ → Question
 
 -- what the definitions answer
 unfoldable pub answer : Question → List ℕ
@@ -43,6 +49,7 @@ answer (check bs ev) = checkingNumbers (checking bs ev)
 answer (show bs ev) = shown bs ev
 answer (list bs) = listing bs
 answer (act a bs b) = actingNumbers (acting a bs b) ++ actBytes a bs b
+answer (write l buf) = writingNumbers (writing l buf) ++ writtenBytes l buf
 
 -- a question, and what document 01 says
 pub record Row : Type 0 where
@@ -165,4 +172,28 @@ table =
     ∷ record { question = act Evict caseK 1; says = 11 ∷ caseK }
     ∷ record { question = act Evict caseA 2; says = 8 ∷ caseA }
     ∷ record { question = act Evict (set caseA 0 0x22) 0; says = 2 ∷ set caseA 0 0x22 }
+    -- write: A's lists give A's bytes, fill bits included; more bytes stay, and a buffer that is a byte short is as it was. The lists of other
+    -- pictures give theirs
+    ∷ record { question = write listsA (replicate 27 0xFF); says = 0 ∷ 27 ∷ caseA }
+    ∷ record { question = write listsA (replicate 30 0xEE); says = 0 ∷ 27 ∷ (caseA ++ replicate 3 0xEE) }
+    ∷ record { question = write listsA (replicate 26 0xEE); says = 9 ∷ replicate 26 0xEE }
+    ∷ record { question = write (listsOf (pictureOf caseF)) (replicate 25 0xFF); says = 0 ∷ 25 ∷ caseF }
+    ∷ record { question = write (listsOf (pictureOf caseK)) (replicate 27 0xFF); says = 0 ∷ 27 ∷ caseK }
+    ∷ record { question = write (listsOf (pictureOf caseM)) (replicate 17 0xFF); says = 0 ∷ 17 ∷ caseM }
+    -- and the lists of what the reader refuses get the reader's number: β 3 with n 4, D 201, slot 1 state 3, a link 0 to 5, an endpoint 0
+    ∷ record { question = write (listsOf (pictureOf (set caseA 0 0x13))) (replicate 27 0xEE); says = 3 ∷ replicate 27 0xEE }
+    ∷ record { question = write (listsOf (pictureOf (set caseA 3 201))) (replicate 27 0xEE); says = 4 ∷ replicate 27 0xEE }
+    ∷ record { question = write (listsOf (pictureOf (set caseA 7 0xE4))) (replicate 27 0xEE); says = 5 ∷ replicate 27 0xEE }
+    ∷ record { question = write (listsOf (pictureOf (set caseA 14 0x14))) (replicate 27 0xEE); says = 6 ∷ replicate 27 0xEE }
+    ∷ record { question = write (listsOf (pictureOf (set caseA 22 0x00))) (replicate 27 0xEE); says = 6 ∷ replicate 27 0xEE }
+    -- columns of unequal length, no lists at all, and values that no field has room for
+    ∷ record { question = write (listsWith (true ∷ true ∷ true ∷ []) (true ∷ false ∷ [])) (replicate 27 0xEE); says = 3 ∷ replicate 27 0xEE }
+    ∷ record { question = write (listsWith (true ∷ true ∷ true ∷ true ∷ []) (true ∷ false ∷ true ∷ [])) (replicate 27 0xEE); says = 4 ∷ replicate 27 0xEE }
+    ∷ record { question = write (handed 1 0 [] [] [] [] [] []) (replicate 7 0xEE); says = 3 ∷ replicate 7 0xEE }
+    ∷ record { question = write (handed 0x11 0 (0 ∷ []) (true ∷ []) [] [] [] []) (replicate 8 0xEE); says = 3 ∷ replicate 8 0xEE }
+    ∷ record { question = write (handed 1 0 (4 ∷ []) (true ∷ []) [] [] [] []) (replicate 8 0xEE); says = 5 ∷ replicate 8 0xEE }
+    ∷ record { question = write (handed 1 0 (0 ∷ []) (true ∷ []) [] [] ((0x100 ∷ 0 ∷ []) ∷ []) []) (replicate 10 0xEE); says = 6 ∷ replicate 10 0xEE }
+    -- a short buffer comes last
+    ∷ record { question = write (handed 1 0 (3 ∷ []) (true ∷ []) [] [] [] []) []; says = 5 ∷ [] }
+    ∷ record { question = write (handed 1 0 (0 ∷ []) (true ∷ []) [] [] [] []) []; says = 9 ∷ [] }
     ∷ []

@@ -76,6 +76,11 @@ pub end-at : 0 ≡ first []
 unfolding first
 end-at = refl
 
+pub first-one : (x : ℕ) → x ≡ first (x ∷ [])
+unfolding first
+first-one zero = refl
+first-one (suc x) = refl
+
 -- the first number of some elements may stand for them
 pub first-in : (k l m : List ℕ) → first (k ++ (first l ∷ m)) ≡ first (k ++ (l ++ m))
 unfolding first

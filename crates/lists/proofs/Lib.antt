@@ -14,3 +14,4 @@ pub mod Every
 pub mod Growing
 pub mod Scans
 pub mod Alls
+pub mod Zips

@@ -1,5 +1,5 @@
 -- Laws of a list of fields put together from parts: what it takes, that it fits, and that bytes hold it. Assumes nothing.
-use mathlib.Core.Path.{_≡_, sym, ap, _∙_}
+use mathlib.Core.Path.{_≡_, sym, ap, _∙_, subst}
 use mathlib.Core.List.{List, [], _∷_, _++_, map}
 use Prim.Native.Nat.{ℕ, zero, suc, _+_, _*_, _<_, zero-le, suc-le-suc}
 use native.Mathlib.Omega.{arith}
@@ -71,3 +71,13 @@ start g w e rs i s = span-flat g w e (take i rs) ∙ ap (λ (n : ℕ). n * w) (l
 pub holds-flat : {A : Type 0} (d : A) (g : A → List Field) (w : ℕ) → ((r : A) → span (g r) ≡ w) → (bs : List ℕ) (q : ℕ) (rs : List A)
     → Holds bs q (flat (map g rs)) → (i : ℕ) → i < length rs → Holds bs (q + i * w) (g (getD rs i d))
 holds-flat d g w e bs q rs h i s = rw (start g w e rs i s) at (holds-groups d g bs q rs h i s)
+
+-- the other way
+pub flat-holds : {A : Type 0} (d : A) (g : A → List Field) (w : ℕ) → ((r : A) → span (g r) ≡ w) → (bs : List ℕ) (q : ℕ) (rs : List A)
+    → ((i : ℕ) → i < length rs → Holds bs (q + i * w) (g (getD rs i d))) → Holds bs q (flat (map g rs))
+unfolding flat Holds
+flat-holds d g w e bs q [] h = tt
+flat-holds d g w e bs q (r ∷ rs) h =
+    append-holds bs q (g r) (flat (map g rs)) (subst (λ (n : ℕ). Holds bs n (g r)) (omega (arith, zero-mul w)) (h 0 (suc-le-suc zero-le)))
+    (flat-holds d g w e bs (q + span (g r)) rs
+    (λ i s. subst (λ (n : ℕ). Holds bs n (g (getD rs i d))) (omega (arith, suc-mul i w, e r)) (h (suc i) (suc-le-suc s))))

@@ -2,7 +2,7 @@
 use mathlib.Core.Path.{_≡_, refl, sym, ap, _∙_}
 use mathlib.Core.Logic.{by-cases}
 use mathlib.Core.List.{List, [], _∷_, _++_}
-use Prim.Native.Nat.{ℕ, zero, suc, _+_, _-_, _*_, _/_, _%_, _^_, _<_}
+use Prim.Native.Nat.{ℕ, zero, suc, _+_, _-_, _*_, _/_, _%_, _^_, _≤_, _<_}
 use native.Mathlib.Omega.{arith}
 use native.Mathlib.Numerals.{add-one, one-add}
 use native.Mathlib.Nat.{add-suc, add-assoc, zero-add, mod-lt, div-one, mod-eq-of-lt, zero-lt-suc, not-suc-le-zero, le-of-suc-le-suc}
@@ -13,7 +13,7 @@ use lib.Pow.{shr-shr}
 use lib.Arith.{digits-div, digits-mod}
 use Rattle.bits.specs.Bits.{bitAt, number, fieldAt}
 use Rattle.bits.proofs.Reading.{number-ext, number-digits, number-lt}
-use Rattle.packing.specs.Packing.{Field, digits, bits, bytesOf, packed}
+use Rattle.packing.specs.Packing.{Bytes, Field, digits, bits, bytesOf, packed}
 use Rattle.packing.specs.Holding.{span, Fit, Holds}
 
 -- ---- a number made of binary digits
@@ -88,7 +88,7 @@ pub length-packed : (fs : List Field) → length (packed fs) ≡ (span fs + 7) /
 unfolding packed
 length-packed fs = length-bytesOf ((length (bits fs) + 7) / 8) (bits fs) ∙ ap (λ (n : ℕ). (n + 7) / 8) (length-bits fs)
 
-pub packed-byte : (fs : List Field) (j : ℕ) → getD (packed fs) j 0 < 256
+pub packed-byte : (fs : List Field) → Bytes (packed fs)
 unfolding packed
 packed-byte fs j = by-cases (decLt j n)
     (λ s. rw (getD-bytesOf n (bits fs) j s) (number-lt (λ i. getD (bits fs) (j * 8 + i) 0) (λ i. bits-lt fs (j * 8 + i)) 8))
@@ -97,9 +97,13 @@ packed-byte fs j = by-cases (decLt j n)
     n : ℕ
     n = (length (bits fs) + 7) / 8
 
-pub bitAt-packed : (fs : List Field) (i : ℕ) → i < span fs → bitAt (packed fs) i ≡ getD (bits fs) i 0
+-- up to the last byte they have the bits of the fields, and zeros behind those
+bitAt-packed : (fs : List Field) (i : ℕ) → i < (span fs + 7) / 8 * 8 → bitAt (packed fs) i ≡ getD (bits fs) i 0
 unfolding packed
 bitAt-packed fs i h = bitAt-bytesOf ((length (bits fs) + 7) / 8) (bits fs) (bits-lt fs) i (omega (arith, length-bits fs))
+
+pub packed-fill : (fs : List Field) (i : ℕ) → span fs ≤ i → i < (span fs + 7) / 8 * 8 → bitAt (packed fs) i ≡ 0
+packed-fill fs i s h = bitAt-packed fs i h ∙ List·getD-eq-default (bits fs) 0 {n = i} (omega (arith, length-bits fs))
 
 -- bytes that have the bits of the fields hold them
 bits-hold : (bs : List ℕ) (q : ℕ) (fs : List Field) → Fit fs → ((i : ℕ) → i < span fs → bitAt bs (q + i) ≡ getD (bits fs) i 0) → Holds bs q fs
@@ -123,4 +127,4 @@ bits-hold bs q (f ∷ fs) h e = (
     rest i s = rw (add-assoc q (f .width) i) (e (f .width + i) (omega arith) ∙ ap (λ (n : ℕ). getD (l ++ bits fs) (n + i) 0) (sym wide) ∙ getD-append-add l (bits fs) i 0)
 
 pub packed-holds : (fs : List Field) → Fit fs → Holds (packed fs) 0 fs
-packed-holds fs h = bits-hold (packed fs) 0 fs h (λ i s. ap (bitAt (packed fs)) (zero-add i) ∙ bitAt-packed fs i s)
+packed-holds fs h = bits-hold (packed fs) 0 fs h (λ i s. ap (bitAt (packed fs)) (zero-add i) ∙ bitAt-packed fs i (omega arith))

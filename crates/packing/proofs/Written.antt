@@ -12,9 +12,9 @@ use lib.Seq.{getD-drop, getD-append-add, ext-getD}
 use Rattle.bits.specs.Bits.{bitAt, number, fieldAt, putField}
 use Rattle.bits.proofs.Reading.{number-ext, bitAt-lt, fieldAt-byte}
 use Rattle.bits.proofs.Writing.{field-put}
-use Rattle.packing.specs.Packing.{Field, packed}
+use Rattle.packing.specs.Packing.{Bytes, Field, packed}
 use Rattle.packing.specs.Holding.{span, Fit, Holds}
-use Rattle.packing.proofs.Packed.{number-bit, length-packed, packed-byte, packed-holds}
+use Rattle.packing.proofs.Packed.{number-bit, length-packed, packed-byte, packed-fill, packed-holds}
 
 -- ---- fields and bits
 
@@ -56,7 +56,7 @@ holds-bits bs cs q (f ∷ fs) a b i s = by-cases (decLt i (f .width))
 -- ---- bytes and bits
 
 -- bytes are their bits
-pub bytes-ext : (bs cs : List ℕ) → ((j : ℕ) → getD bs j 0 < 256) → ((j : ℕ) → getD cs j 0 < 256) → length bs ≡ length cs
+pub bytes-ext : (bs cs : List ℕ) → Bytes bs → Bytes cs → length bs ≡ length cs
     → ((i : ℕ) → i < 8 * length bs → bitAt bs i ≡ bitAt cs i) → bs ≡ cs
 bytes-ext bs cs hb hc n e =
     ext-getD 0 bs cs n (λ j s. sym (fieldAt-byte bs j (hb j)) ∙ fieldAt-ext bs cs (j * 8) 8 (λ i l. e (j * 8 + i) (omega arith)) ∙ fieldAt-byte cs j (hc j))
@@ -68,30 +68,35 @@ getD-behind xs buf j h =
     ap (λ (i : ℕ). getD (xs ++ drop (length xs) buf) i 0) (sym place) ∙ getD-append-add xs (drop (length xs) buf) (j - length xs) 0
     ∙ getD-drop (length xs) buf (j - length xs) 0 ∙ ap (λ (i : ℕ). getD buf i 0) place
 
--- bytes that hold the fields, and behind them are a buffer's, are the packed fields over the front of the buffer
-pub held-packed : (buf bs : List ℕ) (fs : List Field) (k : ℕ) → Fit fs → span fs ≡ 8 * k → k ≤ length buf → length bs ≡ length buf
-    → ((j : ℕ) → getD bs j 0 < 256) → ((j : ℕ) → getD buf j 0 < 256) → Holds bs 0 fs → ((i : ℕ) → span fs ≤ i → bitAt bs i ≡ bitAt buf i)
-    → bs ≡ packed fs ++ drop k buf
+-- bytes that hold the fields, then zeros up to the byte, and behind that are a buffer's, are the packed fields over the front of the buffer
+pub held-packed : (buf bs : List ℕ) (fs : List Field) (k : ℕ) → Fit fs → (span fs + 7) / 8 ≡ k → k ≤ length buf → length bs ≡ length buf → Bytes bs → Bytes buf
+    → Holds bs 0 fs → ((i : ℕ) → span fs ≤ i → i < k * 8 → bitAt bs i ≡ 0) → ((i : ℕ) → k * 8 ≤ i → bitAt bs i ≡ bitAt buf i) → bs ≡ packed fs ++ drop k buf
 unfolding bitAt
-held-packed buf bs fs k fit e room n hs hb held rest = rw (← size) (bytes-ext bs (xs ++ drop (length xs) buf) hs byte long bit)
+held-packed buf bs fs k fit e room n hs hb held fill rest = rw (← size) (bytes-ext bs (xs ++ drop (length xs) buf) hs byte long bit)
   where
     xs : List ℕ
     xs = packed fs
 
     size : length xs ≡ k
-    size = length-packed fs ∙ omega arith
+    size = length-packed fs ∙ e
 
     long : length bs ≡ length (xs ++ drop (length xs) buf)
     long = simp (length-append, length-drop) (omega (arith, size))
 
-    byte : (j : ℕ) → getD (xs ++ drop (length xs) buf) j 0 < 256
+    byte : Bytes (xs ++ drop (length xs) buf)
     byte j = by-cases (decLt j (length xs))
         (λ s. rw (List·getD-append xs (drop (length xs) buf) 0 j s) (packed-byte fs j))
         (λ s. rw (getD-behind xs buf j (omega arith)) (hb j))
 
+    -- a bit of the packed fields is one of the whole
+    front : (i : ℕ) → i < k * 8 → bitAt xs i ≡ bitAt (xs ++ drop (length xs) buf) i
+    front i l = rw (List·getD-append xs (drop (length xs) buf) 0 (i / 8) (omega (arith, size)))
+
     bit : (i : ℕ) → i < 8 * length bs → bitAt bs i ≡ bitAt (xs ++ drop (length xs) buf) i
-    bit i s = by-cases (decLt i (span fs))
-        (λ l. rw (zero-add i) at (holds-bits bs xs 0 fs held (packed-holds fs fit) i l) ∙ rw (List·getD-append xs (drop (length xs) buf) 0 (i / 8) (omega (arith, size))))
+    bit i s = by-cases (decLt i (k * 8))
+        (λ l. by-cases (decLt i (span fs))
+        (λ m. rw (zero-add i) at (holds-bits bs xs 0 fs held (packed-holds fs fit) i m))
+        (λ m. fill i (omega arith) l ∙ sym (packed-fill fs i (omega arith) (omega arith))) ∙ front i l)
         (λ l. rest i (omega arith) ∙ rw (getD-behind xs buf (i / 8) (omega (arith, size))))
 
 -- ---- a field that is written

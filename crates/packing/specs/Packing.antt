@@ -1,14 +1,24 @@
 -- Fields, each a width and a value, and the bytes that they pack into. Document 01: "Fields are packed most significant bit first,
 -- without gaps". Assumes nothing.
 use mathlib.Core.List.{List, [], _∷_, _++_}
-use Prim.Native.Nat.{ℕ, zero, suc, _+_, _/_, _%_, _^_}
+use Prim.Native.Nat.{ℕ, zero, suc, _+_, _/_, _%_, _^_, _<_}
 use lib.ListN.{length, getD, drop}
 use Rattle.bits.specs.Bits.{number}
+
+-- each number is a byte
+abbrev pub Bytes : List ℕ → Type 0
+Bytes bs = (j : ℕ) → getD bs j 0 < 256
 
 -- a field to be written: its width and its value
 pub record Field : Type 0 where
   pub width : ℕ
   pub value : ℕ
+
+-- values with their widths
+unfoldable pub fieldsOf : List ℕ → List ℕ → List Field
+fieldsOf [] vs = []
+fieldsOf (w ∷ ws) [] = []
+fieldsOf (w ∷ ws) (v ∷ vs) = record { width = w; value = v } ∷ fieldsOf ws vs
 
 -- the w low digits of v, the highest first
 unfoldable pub digits : ℕ → ℕ → List ℕ

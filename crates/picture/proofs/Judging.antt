@@ -2,23 +2,24 @@
 use mathlib.Core.Path.{_≡_, ap, _∙_}
 use mathlib.Core.Bool.{not, _||_}
 use mathlib.Core.Logic.{_≢_}
-use mathlib.Core.List.{List}
-use Prim.Native.Nat.{ℕ, zero, suc, _+_, _-_, _*_, _/_, _%_, _≤_, zero-le, suc-le-suc}
+use mathlib.Core.List.{List, _++_}
+use Prim.Native.Nat.{ℕ, zero, suc, _+_, _-_, _*_, _/_, _%_, _≤_, _<_, zero-le, suc-le-suc}
 use native.Mathlib.Omega.{arith}
-use lib.Dec.{T, T-not, not-T, eqb, leb, ltb, leb→le, eqb→eq, nltb→le}
+use lib.Dec.{T, eqb, leb, ltb, leb→le, eqb→eq, nltb→le}
 use borrow.Author.Tests.{le-leb, le-ltb, eq-eqb, ne-eqb}
-use lib.ListN.{length}
+use lib.ListN.{length, getD}
 use Rattle.bits.specs.Bits.{bitAt, fieldAt}
 use Rattle.bits.proofs.Reading.{fieldAt-zeros, zeros-fieldAt}
-use Rattle.lists.specs.Lists.{on}
-use Rattle.lists.proofs.Tests.{and-T, not-or, eq-T}
-use Rattle.lists.proofs.Faults.{on-zero, on-none}
+use Rattle.lists.specs.Lists.{on, first, item}
+use Rattle.lists.specs.Rules.{Rule, Judged}
+use Rattle.lists.proofs.Tests.{and-T, not-or}
+use Rattle.lists.proofs.Faults.{on-zero, on-told, judge-each}
 use Rattle.picture.specs.declared.Header.{Header}
 use Rattle.picture.specs.declared.Link.{Link}
-use Rattle.picture.specs.Layout.{Edition, edition1, blockSizeMax, blocksMax, endpointsMax, linksMax, noState, endAt, sizeOf}
-use Rattle.picture.specs.Picture.{Slot}
-use Rattle.picture.specs.Faults.{sizesRight, countsRight, slotFault, linkFault, serviceLinkFault, endRight}
-use Rattle.picture.specs.Rules.{Sizes, Counts, Ends}
+use Rattle.picture.specs.Layout.{Edition, edition1, blockSizeMax, blocksMax, endpointsMax, linksMax, stateMax, endAt, sizeOf}
+use Rattle.picture.specs.Picture.{Picture, slotOf}
+use Rattle.picture.specs.Faults.{sizesRight, countsRight, stateFault, linkFault, serviceLinkFault, listFaults, endRight}
+use Rattle.picture.specs.Rules.{Sizes, Counts, States, Ends, noLink, listRules}
 use Rattle.picture.specs.Inner.{Limited}
 
 -- ---- the header
@@ -62,13 +63,13 @@ right-limited h s c = record { slots = right-sizes edition1 h s .slots-most; cou
 
 -- ---- the lists
 
-pub right-state : (s : Slot) → slotFault s ≡ 0 → s .state ≢ noState
-unfolding slotFault
-right-state s e q = T-not (eqb (s .state) noState) (on-zero (eqb (s .state) noState) 4 e) (eq-T (s .state) noState q)
+pub right-state : (k : ℕ) → stateFault k ≡ 0 → k ≤ stateMax
+unfolding stateFault
+right-state k e = nltb→le stateMax k (on-zero (ltb stateMax k) 4 e)
 
-pub state-right : (s : Slot) → s .state ≢ noState → slotFault s ≡ 0
-unfolding slotFault
-state-right s n = on-none (eqb (s .state) noState) 5 (not-T (eqb (s .state) noState) (λ t. n (eqb→eq (s .state) noState t)))
+pub state-right : (k : ℕ) → k ≤ stateMax → stateFault k ≡ 0
+unfolding stateFault on
+state-right k h = rw (le-ltb stateMax k h)
 
 pub right-link : (n : ℕ) (l : Link) → linkFault n l ≡ 0 → (l .from ≤ n) × (l .to ≤ n)
 unfolding linkFault
@@ -96,6 +97,44 @@ unfolding serviceLinkFault on
 service-right n d l f s t =
     let some : l .to ≢ 0 = λ z. absurd (omega arith) in
     rw (le-ltb _ _ f, ne-eqb _ _ some, le-ltb _ _ t)
+
+-- each list has one number for its faults
+state-told : (k : ℕ) → stateFault k ≢ 0 → stateFault k ≡ 5
+unfolding stateFault
+state-told k = on-told _ 5
+
+link-told : (n : ℕ) (l : Link) → linkFault n l ≢ 0 → linkFault n l ≡ 6
+unfolding linkFault
+link-told n l = on-told _ 6
+
+service-told : (n d : ℕ) (l : Link) → serviceLinkFault n d l ≢ 0 → serviceLinkFault n d l ≡ 6
+unfolding serviceLinkFault
+service-told n d l = on-told _ 6
+
+module _ (h : Header) (p : Picture) (long : length (p .slots) ≡ h .slots) where
+  states-judged : ((i : ℕ) → i < length (p .slots) → stateFault (getD (p .slots) i (slotOf p 0) .state) ≡ 0) → States (h .slots) p
+  unfolding slotOf item
+  states-judged c = record { state = at }
+    where
+      at : (v : ℕ) → 1 ≤ v → v ≤ h .slots → slotOf p v .state ≤ stateMax
+      at zero l m = absurd (omega arith)
+      at (suc i) l m = right-state _ (c i (omega arith))
+
+  states-clean : States (h .slots) p → (i : ℕ) → i < length (p .slots) → stateFault (getD (p .slots) i (slotOf p 0) .state) ≡ 0
+  unfolding slotOf item
+  states-clean s i l = state-right _ (s .state (suc i) (suc-le-suc zero-le) (omega arith))
+
+  -- the rules of the lists, before others
+  pub lists-judged : (rs : List Rule) (l : List ℕ) → Judged rs (first l) → Judged (listRules h p ++ rs) (first (listFaults h p ++ l))
+  unfolding listRules listFaults
+  lists-judged rs l j =
+      judge-each _ _ (λ s. stateFault (s .state)) (slotOf p 0) (p .slots) _ states-judged states-clean (λ s. state-told (s .state))
+      (judge-each _ _ (linkFault (h .slots)) noLink (p .links) _
+      (λ c. record { from = λ i m. right-link _ _ (c i m) .0; to = λ i m. right-link _ _ (c i m) .1 })
+      (λ r i m. link-right _ _ (r .from i m) (r .to i m)) (link-told (h .slots))
+      (judge-each _ _ (serviceLinkFault (h .slots) (h .endpoints)) noLink (p .serviceLinks) _
+      (λ c. record { location = λ i m. right-service _ _ _ (c i m) .0; endpoint-some = λ i m. right-service _ _ _ (c i m) .1; endpoint-most = λ i m. right-service _ _ _ (c i m) .2 })
+      (λ r i m. service-right _ _ _ (r .location i m) (r .endpoint-some i m) (r .endpoint-most i m)) (service-told (h .slots) (h .endpoints)) j))
 
 -- ---- the end
 

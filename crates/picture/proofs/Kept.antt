@@ -6,7 +6,7 @@ use lib.ListN.{length}
 use Rattle.lists.specs.Rules.{AllHold, more, none}
 use Rattle.picture.specs.Layout.{editionOf, headerWidths, fieldIn, leastBytes, sizeOf}
 use Rattle.picture.specs.Picture.{headerOf, pictureOf}
-use Rattle.picture.specs.Rules.{Sizes, Counts, States, Links, ServiceLinks, Ends, rulesWith, rules}
+use Rattle.picture.specs.Rules.{Sizes, Counts, States, Links, ServiceLinks, Ends, listRules, rulesWith, rules}
 
 -- the rules in their order
 pub record Kept (bs : List ℕ) : Type 0 where
@@ -21,12 +21,12 @@ pub record Kept (bs : List ℕ) : Type 0 where
   pub ends : Ends (editionOf bs) (headerOf bs) bs
 
 pub holds-kept : (bs : List ℕ) → AllHold (rules bs) → Kept bs
-unfolding rules rulesWith
+unfolding rules rulesWith listRules
 holds-kept bs (more a (more b (more c (more d (more e (more f (more g (more h (more i none))))))))) =
     record { header = a; edition = b; sizes = c; counts = d; long = e; states = f; links = g; serviceLinks = h; ends = i }
 
 pub kept-holds : {bs : List ℕ} → Kept bs → AllHold (rules bs)
-unfolding rules rulesWith
+unfolding rules rulesWith listRules
 kept-holds k =
     more (k .header) (more (k .edition) (more (k .sizes) (more (k .counts) (more (k .long) (more (k .states) (more (k .links)
     (more (k .serviceLinks) (more (k .ends) none))))))))

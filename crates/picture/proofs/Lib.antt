@@ -1,5 +1,6 @@
 -- Laws of the picture's layout.
 pub mod Starts
+pub mod Fields
 pub mod Finding
 pub mod Judging
 pub mod Kept

@@ -14,7 +14,7 @@ use Rattle.picture.specs.declared.Header.{Header}
 use Rattle.picture.specs.Layout.{edition1, pictureMax, headerWidths, slotWidths, endpointWidths, linkWidths, serviceLinkWidths, slotsAt, endpointsAt, linksAt, serviceLinksAt, endAt, sizeOf, fieldIn}
 use Rattle.picture.specs.Picture.{headerOf, headerIn, pictureWith}
 use Rattle.picture.specs.Inner.{Limited}
-use Rattle.picture.specs.Faults.{sizesRight, countsRight, endRight, bodyFaults, faultsWith, pictureFault}
+use Rattle.picture.specs.Faults.{sizesRight, countsRight, listFaults, endRight, bodyFaults, faultsWith, pictureFault}
 use Rattle.picture.proofs.Judging.{right-limited}
 use Rattle.picture.proofs.Accepted.{accepted-kept}
 use Rattle.picture.proofs.Fronts.{edition-front, header-front, slots-front, links-front}
@@ -63,7 +63,7 @@ module _ (m : ℕ) (wide : pictureMax < m) (bs : List ℕ) (over : m < length bs
   module _ (h : Header) (l : Limited h) where
     -- the parts up to the end of the longest picture are the same
     parts-same : bodyFaults edition1 h (pictureWith edition1 h front) front ≡ bodyFaults edition1 h (pictureWith edition1 h bs) bs
-    unfolding bodyFaults pictureWith
+    unfolding listFaults bodyFaults pictureWith
     parts-same =
         let w = within h l in
         rw (

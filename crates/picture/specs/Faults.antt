@@ -1,7 +1,7 @@
 -- The number of a picture's first fault, in the order of document 01, and the answer that reading gives by it: by computation. The laws
 -- show that the number is that of the first rule broken. Assumes nothing.
 use mathlib.Core.Bool.{Bool, not, _&&_, _||_}
-use mathlib.Core.List.{List, [], _∷_, map}
+use mathlib.Core.List.{List, [], _∷_, _++_, map}
 use Prim.Native.Nat.{ℕ, zero, suc, _-_, _*_, _/_, _%_}
 use lib.Dec.{eqb, leb, ltb}
 use lib.ListN.{length}
@@ -11,8 +11,8 @@ use Rattle.picture.specs.declared.Header.{Header}
 use Rattle.picture.specs.declared.Link.{Link}
 use Rattle.picture.specs.declared.Reading.{Reading}
 use Rattle.picture.specs.declared.Reading.the-variants.{Accepted, Refused}
-use Rattle.picture.specs.Layout.{Edition, editionOf, headerWidths, fieldIn, blockSizeMax, blocksMax, endpointsMax, linksMax, noState, leastBytes, endAt, sizeOf}
-use Rattle.picture.specs.Picture.{Slot, Picture, headerIn, headerOf, pictureWith}
+use Rattle.picture.specs.Layout.{Edition, editionOf, headerWidths, fieldIn, blockSizeMax, blocksMax, endpointsMax, linksMax, stateMax, leastBytes, endAt, sizeOf}
+use Rattle.picture.specs.Picture.{Picture, headerIn, headerOf, pictureWith}
 
 -- 3: β is 1 to 8; n is 1 to its limit, a multiple of β with n/β at most 60
 unfoldable pub sizesRight : Edition → Header → Bool
@@ -25,8 +25,8 @@ unfoldable pub countsRight : Header → Bool
 countsRight h = leb (h .endpoints) endpointsMax && (leb (h .links) linksMax && leb (h .«service_links») linksMax)
 
 -- 5: a state is none of the three
-unfoldable pub slotFault : Slot → ℕ
-slotFault s = on (eqb (s .state) noState) 5
+unfoldable pub stateFault : ℕ → ℕ
+stateFault k = on (ltb stateMax k) 5
 
 -- 6: an end of a link is above n
 unfoldable pub linkFault : ℕ → Link → ℕ
@@ -40,15 +40,17 @@ serviceLinkFault n d l = on (ltb n (l .from) || (eqb (l .to) 0 || ltb d (l .to))
 unfoldable pub endRight : Edition → Header → List ℕ → Bool
 endRight e h bs = eqb (fieldAt bs (endAt e h) (sizeOf e h * 8 - endAt e h)) 0 && eqb (length bs) (sizeOf e h)
 
--- the faults of the parts after the header, each its number or 0: states in order (5), links and then service links (6), fill bits or
--- extra bytes (7)
-unfoldable pub bodyFaults : Edition → Header → Picture → List ℕ → List ℕ
-bodyFaults e h p bs =
-    first (map slotFault (p .slots))
+-- the faults of the lists, each its number or 0: states in order (5), links and then service links (6)
+unfoldable pub listFaults : Header → Picture → List ℕ
+listFaults h p =
+    first (map (λ s. stateFault (s .state)) (p .slots))
     ∷ first (map (linkFault (h .slots)) (p .links))
     ∷ first (map (serviceLinkFault (h .slots) (h .endpoints)) (p .serviceLinks))
-    ∷ on (not (endRight e h bs)) 7
     ∷ []
+
+-- the faults of the parts after the header: those of the lists, and fill bits or extra bytes (7)
+unfoldable pub bodyFaults : Edition → Header → Picture → List ℕ → List ℕ
+bodyFaults e h p bs = listFaults h p ++ (on (not (endRight e h bs)) 7 ∷ [])
 
 -- all faults in their order: under 7 bytes (1), 2, 3, 4, shorter than the header says (1), and then the parts'
 unfoldable pub faultsWith : Edition → Header → Picture → List ℕ → List ℕ

@@ -70,9 +70,9 @@ linksMax = 2000
 abbrev pub pictureMax : ℕ
 pictureMax = 8522
 
--- state 3 is none of held, recoverable and freed
-abbrev pub noState : ℕ
-noState = 3
+-- a state is 0 (held), 1 (recoverable) or 2 (freed)
+abbrev pub stateMax : ℕ
+stateMax = 2
 
 -- ---- where each part starts, in bits, and the size in bytes
 

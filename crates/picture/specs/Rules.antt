@@ -1,14 +1,13 @@
 -- The rules of a picture's layout as propositions, with their numbers and in the order of document 01. Assumes nothing.
-use mathlib.Core.List.{List, [], _∷_}
+use mathlib.Core.List.{List, [], _∷_, _++_}
 use mathlib.Core.Path.{_≡_}
-use mathlib.Core.Logic.{_≢_}
 use Prim.Native.Nat.{ℕ, _*_, _/_, _%_, _≤_, _<_}
 use lib.ListN.{length, getD}
 use Rattle.bits.specs.Bits.{bitAt}
 use Rattle.lists.specs.Rules.{Rule}
 use Rattle.picture.specs.declared.Header.{Header}
 use Rattle.picture.specs.declared.Link.{Link}
-use Rattle.picture.specs.Layout.{Edition, editionOf, headerWidths, fieldIn, blockSizeMax, blocksMax, endpointsMax, linksMax, noState, leastBytes, endAt, sizeOf}
+use Rattle.picture.specs.Layout.{Edition, editionOf, headerWidths, fieldIn, blockSizeMax, blocksMax, endpointsMax, linksMax, stateMax, leastBytes, endAt, sizeOf}
 use Rattle.picture.specs.Picture.{Picture, headerOf, pictureOf, slotOf}
 
 -- "β is 1 to 8; n is 1 to 240, a multiple of β with n/β at most 60"
@@ -28,7 +27,7 @@ pub record Counts (h : Header) : Type 0 where
 
 -- "For each slot 1 to n: state 2 (0 held, 1 recoverable, 2 freed)"
 pub record States (n : ℕ) (p : Picture) : Type 0 where
-  pub state : (v : ℕ) → 1 ≤ v → v ≤ n → slotOf p v .state ≢ noState
+  pub state : (v : ℕ) → 1 ≤ v → v ≤ n → slotOf p v .state ≤ stateMax
 
 -- a link that no list has, for a place past its end
 abbrev pub noLink : Link
@@ -50,7 +49,15 @@ pub record Ends (e : Edition) (h : Header) (bs : List ℕ) : Type 0 where
   pub fill : (i : ℕ) → endAt e h ≤ i → i < sizeOf e h * 8 → bitAt bs i ≡ 0
   pub end : length bs ≡ sizeOf e h
 
--- the rules with their numbers, in the order in which they are judged
+-- the rules of the lists with their numbers, in the order in which they are judged
+unfoldable pub listRules : Header → Picture → List Rule
+listRules h p =
+    record { number = 5; holds = States (h .slots) p }
+    ∷ record { number = 6; holds = Links (h .slots) p }
+    ∷ record { number = 6; holds = ServiceLinks (h .slots) (h .endpoints) p }
+    ∷ []
+
+-- all rules in their order
 unfoldable pub rulesWith : Edition → Header → Picture → List ℕ → List Rule
 rulesWith e h p bs =
     record { number = 1; holds = leastBytes ≤ length bs }
@@ -58,11 +65,7 @@ rulesWith e h p bs =
     ∷ record { number = 3; holds = Sizes e h }
     ∷ record { number = 4; holds = Counts h }
     ∷ record { number = 1; holds = sizeOf e h ≤ length bs }
-    ∷ record { number = 5; holds = States (h .slots) p }
-    ∷ record { number = 6; holds = Links (h .slots) p }
-    ∷ record { number = 6; holds = ServiceLinks (h .slots) (h .endpoints) p }
-    ∷ record { number = 7; holds = Ends e h bs }
-    ∷ []
+    ∷ (listRules h p ++ (record { number = 7; holds = Ends e h bs } ∷ []))
 
 -- the rules of any bytes: a picture is accepted where all of them hold, and else refused with the number of the first that is broken
 unfoldable pub rules : List ℕ → List Rule

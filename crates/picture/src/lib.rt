@@ -7,7 +7,7 @@ ghost use Rattle.bits.specs.Bits.{putField};
 ghost use Rattle.lists.specs.Lists.{first, sum, outcome};
 ghost use Rattle.picture.specs.Layout.{edition1, slotWidths, slotsAt, sizeOf};
 ghost use Rattle.picture.specs.Picture.{headerIn, headerOf, linkAt, pictureWith, slotOf, endpointOf};
-ghost use Rattle.picture.specs.Faults.{sizesRight, countsRight, slotFault, linkFault, serviceLinkFault, endRight, bodyFaults, pictureFault, reading};
+ghost use Rattle.picture.specs.Faults.{sizesRight, countsRight, stateFault, linkFault, serviceLinkFault, endRight, bodyFaults, pictureFault, reading};
 ghost use Rattle.picture.specs.Rules.{noLink};
 ghost use Rattle.picture.specs.Inner.{Limited, placesOf};
 ghost use Rattle.picture.specs.Answers.{headerValues, readingNumbers};
@@ -15,56 +15,56 @@ ghost use Rattle.picture.specs.Answers.{headerValues, readingNumbers};
 pub mod refusals;
 
 // Widths in bits, in the order of the fields.
-const EDITION_BITS: usize = 4;
+pub const EDITION_BITS: usize = 4;
 
-const BLOCK_SIZE_BITS: usize = 4;
+pub const BLOCK_SIZE_BITS: usize = 4;
 
-const SLOTS_BITS: usize = 8;
+pub const SLOTS_BITS: usize = 8;
 
-const NEAR_LIMIT_BITS: usize = 8;
+pub const NEAR_LIMIT_BITS: usize = 8;
 
-const ENDPOINTS_BITS: usize = 8;
+pub const ENDPOINTS_BITS: usize = 8;
 
-const LINKS_BITS: usize = 12;
+pub const LINKS_BITS: usize = 12;
 
-const STATE_BITS: usize = 2;
+pub const STATE_BITS: usize = 2;
 
-const NEAR_BITS: usize = 1;
+pub const NEAR_BITS: usize = 1;
 
-const WEIGHT_BITS: usize = 16;
+pub const WEIGHT_BITS: usize = 16;
 
-const PROTECTED_BITS: usize = 1;
+pub const PROTECTED_BITS: usize = 1;
 
-const LOCATION_BITS: usize = 8;
+pub const LOCATION_BITS: usize = 8;
 
-const ENDPOINT_BITS: usize = 8;
+pub const ENDPOINT_BITS: usize = 8;
 
 // Where the fields of the header start.
-const BLOCK_SIZE_AT: usize = EDITION_BITS;
+pub const BLOCK_SIZE_AT: usize = EDITION_BITS;
 
-const SLOTS_AT: usize = BLOCK_SIZE_AT + BLOCK_SIZE_BITS;
+pub const SLOTS_AT: usize = BLOCK_SIZE_AT + BLOCK_SIZE_BITS;
 
-const NEAR_LIMIT_AT: usize = SLOTS_AT + SLOTS_BITS;
+pub const NEAR_LIMIT_AT: usize = SLOTS_AT + SLOTS_BITS;
 
-const ENDPOINTS_AT: usize = NEAR_LIMIT_AT + NEAR_LIMIT_BITS;
+pub const ENDPOINTS_AT: usize = NEAR_LIMIT_AT + NEAR_LIMIT_BITS;
 
-const LINKS_AT: usize = ENDPOINTS_AT + ENDPOINTS_BITS;
+pub const LINKS_AT: usize = ENDPOINTS_AT + ENDPOINTS_BITS;
 
-const SERVICE_LINKS_AT: usize = LINKS_AT + LINKS_BITS;
+pub const SERVICE_LINKS_AT: usize = LINKS_AT + LINKS_BITS;
 
-const HEADER_BITS: usize = SERVICE_LINKS_AT + LINKS_BITS;
+pub const HEADER_BITS: usize = SERVICE_LINKS_AT + LINKS_BITS;
 
 // A row of each of the four lists.
-const SLOT_ROW: usize = STATE_BITS + NEAR_BITS;
+pub const SLOT_ROW: usize = STATE_BITS + NEAR_BITS;
 
-const ENDPOINT_ROW: usize = WEIGHT_BITS + PROTECTED_BITS;
+pub const ENDPOINT_ROW: usize = WEIGHT_BITS + PROTECTED_BITS;
 
-const LINK_ROW: usize = LOCATION_BITS + LOCATION_BITS;
+pub const LINK_ROW: usize = LOCATION_BITS + LOCATION_BITS;
 
-const SERVICE_LINK_ROW: usize = LOCATION_BITS + ENDPOINT_BITS;
+pub const SERVICE_LINK_ROW: usize = LOCATION_BITS + ENDPOINT_BITS;
 
 // Limits.
-const EDITION: usize = 1;
+pub const EDITION: usize = 1;
 
 const LEAST_BYTES: usize = 7;
 
@@ -87,14 +87,14 @@ pub const PICTURE_MAX: usize = (HEADER_BITS
     + 7)
     / 8;
 
-// States of a slot; NO_STATE is the fourth pattern of its two bits.
+// States of a slot.
 pub const HELD: usize = 0;
 
 pub const RECOVERABLE: usize = 1;
 
 pub const FREED: usize = 2;
 
-const NO_STATE: usize = 3;
+const STATE_MAX: usize = FREED;
 
 // The header's numbers: β, n, κ, D, L and S.
 pub struct Header {
@@ -107,11 +107,11 @@ pub struct Header {
 }
 
 // Where the parts of a picture start, in bits: the slots follow the header.
-struct Places {
-    endpoints: usize,
-    links: usize,
-    service_links: usize,
-    end: usize,
+pub struct Places {
+    pub endpoints: usize,
+    pub links: usize,
+    pub service_links: usize,
+    pub end: usize,
 }
 
 // A link between two locations, or a service link from a location to an endpoint.
@@ -141,7 +141,7 @@ fn header_of(s: &[u8]) -> Header
 }
 
 // β and n keep their limits, and n is a multiple of β.
-fn sizes_right(h: Header) -> bool
+pub fn sizes_right(h: Header) -> bool
     ensures { λ r. ⌜ r ≡ sizesRight edition1 h ⌝ }
 {
     let size = h.block_size;
@@ -165,7 +165,7 @@ fn sizes_right(h: Header) -> bool
 }
 
 // D, L and S keep their limits.
-fn counts_right(h: Header) -> bool
+pub fn counts_right(h: Header) -> bool
     ensures { λ r. ⌜ r ≡ countsRight h ⌝ }
 {
     let endpoints = h.endpoints;
@@ -181,7 +181,7 @@ fn counts_right(h: Header) -> bool
 }
 
 // Where the parts after the slots start, and where the last field ends.
-fn find_places(h: Header) -> Places
+pub fn find_places(h: Header) -> Places
     requires { ⌜ Limited h ⌝ }
     ensures { λ r. ⌜ r ≡ placesOf edition1 h ⌝ }
 {
@@ -198,7 +198,7 @@ fn find_places(h: Header) -> Places
 }
 
 // The bytes that a picture with this header takes.
-fn size_of(h: Header) -> usize
+pub fn size_of(h: Header) -> usize
     requires { ⌜ Limited h ⌝ }
     ensures { λ r. ⌜ r ≡ sizeOf edition1 h ⌝ }
 {
@@ -292,16 +292,27 @@ pub fn nth_service_link(s: &[u8], h: Header, i: usize) -> Link
     )
 }
 
+// The fault of one slot's state.
+pub fn state_fault(state: usize) -> u8
+    ensures { λ r. ⌜ r ≡ stateFault state ⌝ }
+{
+    if STATE_MAX < state {
+        return refusals::STATE;
+    }
+    0
+}
+
 // The fault of the first slot without one of the three states.
 fn states_fault(s: &[u8], h: Header) -> u8
     requires { ⌜ Limited h ⌝ }
-    ensures { λ r. ⌜ r ≡ first (map slotFault (pictureWith edition1 h (now (s .entry)) .slots)) ⌝ }
+    ensures { λ r. ⌜ r ≡ first (map (λ q. stateFault (q .state)) (pictureWith edition1 h (now (s .entry)) .slots)) ⌝ }
 {
     let n = h.slots;
     let mut i: usize = 0;
     while i < n {
-        if slot_state(s, h, i + 1) == NO_STATE {
-            return refusals::STATE;
+        let fault = state_fault(slot_state(s, h, i + 1));
+        if fault != 0 {
+            return fault;
         }
         i += 1;
     }
@@ -309,7 +320,7 @@ fn states_fault(s: &[u8], h: Header) -> u8
 }
 
 // The fault of one link.
-fn link_fault(l: Link, n: usize) -> u8
+pub fn link_fault(l: Link, n: usize) -> u8
     ensures { λ r. ⌜ r ≡ linkFault n l ⌝ }
 {
     let from = l.from;
@@ -341,7 +352,7 @@ fn links_fault(s: &[u8], h: Header) -> u8
 }
 
 // The fault of one service link.
-fn service_link_fault(l: Link, n: usize, d: usize) -> u8
+pub fn service_link_fault(l: Link, n: usize, d: usize) -> u8
     ensures { λ r. ⌜ r ≡ serviceLinkFault n d l ⌝ }
 {
     let from = l.from;

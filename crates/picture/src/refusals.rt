@@ -1,4 +1,5 @@
-// The numbers of refusals, for every layer, by the names of the header for C. Every call judges the picture first (1 to 7).
+// The numbers of refusals, for every layer, by the names of the header for C. Every call judges the picture first (1 to 7), and write the lists
+// of one (3 to 6).
 
 // The picture is shorter than a header, or than its header says.
 pub const SHORT: u8 = 1;
@@ -6,13 +7,13 @@ pub const SHORT: u8 = 1;
 // Its edition is not 1.
 pub const EDITION: u8 = 2;
 
-// Block size, slots or number of blocks out of range, or slots not a multiple of the block size.
+// Block size, slots or number of blocks out of range, or slots not a multiple of the block size. Write: columns of slots that differ in length.
 pub const BLOCKS: u8 = 3;
 
-// Number of endpoints, links or service links out of range.
+// Number of endpoints, links or service links out of range. Write: columns of endpoints that differ in length.
 pub const COUNTS: u8 = 4;
 
-// A slot in state 3.
+// A slot in state 3, or above.
 pub const STATE: u8 = 5;
 
 // A link or service link names what is not there.
@@ -24,7 +25,7 @@ pub const FILL: u8 = 7;
 // Weigh and the acts: no block of this number.
 pub const NO_BLOCK: u8 = 8;
 
-// Choose: the buffer is under the evidence's length.
+// Choose, write: the buffer is under the length of the evidence, or of the picture.
 pub const BUFFER: u8 = 9;
 
 // Evict, free: a protected endpoint would be cut.

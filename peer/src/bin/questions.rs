@@ -3,18 +3,23 @@
 //! `questions [SEED]`: see `../questions`, which has the definitions answer them by computation.
 
 use std::env;
+use std::fmt::Display;
 use std::process::exit;
 
+use peer::faults::FAULTS;
 use peer::foreign::{self, GROWTHS};
 use peer::networks::{network, Size, SHAPES};
 use peer::picture::Picture;
 use peer::random::Random;
-use peer::{check, choose, evict, free, reload, show, weigh, write};
+use peer::{check, choose, evict, free, pack, reload, show, weigh};
+use peer::{lists_of, samples, write, Lists};
 
 const DEFAULT_SEED: u64 = 77;
 /// Networks of each shape; in the last of them a bit is turned over.
 const ROUNDS: usize = 5;
-/// Longer than the evidence of a small network, and what the buffer holds before.
+/// Networks whose lists are written.
+const WRITTEN: usize = 3;
+/// Longer than evidence and picture of a small network, and what the buffer holds before.
 const ROOM: usize = 500;
 const BEFORE: u8 = 0xEE;
 
@@ -38,11 +43,44 @@ impl Table {
             Ok(values) => self.add(question, &[vec![0], values].concat()),
         }
     }
+
+    /// A length or a refusal, and the whole buffer at exit.
+    fn add_buffer(&mut self, question: String, answer: Result<usize, u8>, lent: &[u8]) {
+        let answer = match answer {
+            Ok(length) => vec![0, length as u32],
+            Err(number) => vec![u32::from(number)],
+        };
+        self.add(question, &[answer, numbers(lent)].concat());
+    }
 }
 
-fn list(bytes: &[u8]) -> String {
-    let items: String = bytes.iter().map(|byte| format!("{byte} ∷ ")).collect();
-    format!("({items}[])")
+fn items<T: Display>(rows: &[T]) -> String {
+    let each: String = rows.iter().map(|row| format!("{row} ∷ ")).collect();
+    format!("{each}[]")
+}
+
+fn list<T: Display>(rows: &[T]) -> String {
+    format!("({})", items(rows))
+}
+
+fn pairs(links: &[[u16; 2]]) -> String {
+    let links: Vec<String> = links.iter().map(|link| list(link)).collect();
+    items(&links)
+}
+
+fn record(lists: &Lists) -> String {
+    let fields = [
+        ("blockSize", lists.block_size.to_string()),
+        ("nearLimit", lists.near_limit.to_string()),
+        ("states", items(&lists.states)),
+        ("near", items(&lists.near)),
+        ("weights", items(&lists.weights)),
+        ("protected", items(&lists.protected)),
+        ("links", pairs(&lists.links)),
+        ("serviceLinks", pairs(&lists.serving)),
+    ];
+    let fields = fields.map(|(name, value)| format!("{name} = {value}"));
+    format!("(record {{ {} }})", fields.join("; "))
 }
 
 fn numbers(bytes: &[u8]) -> Vec<u32> {
@@ -59,14 +97,9 @@ fn ask(table: &mut Table, random: &mut Random, picture: &Picture, bytes: &[u8], 
     let evidence = &buffer[..length];
     for room in [ROOM, length - 1] {
         let mut lent = vec![BEFORE; room];
-        let answer = match choose(bytes, &mut lent) {
-            Ok(length) => vec![0, length as u32],
-            Err(number) => vec![u32::from(number)],
-        };
-        table.add(
-            format!("choose {name} (replicate {room} {BEFORE}) {room}"),
-            &[answer, numbers(&lent)].concat(),
-        );
+        let answer = choose(bytes, &mut lent);
+        let question = format!("choose {name} (replicate {room} {BEFORE}) {room}");
+        table.add_buffer(question, answer, &lent);
     }
     for block in 0..=picture.block_count() as u32 {
         let weighed =
@@ -96,6 +129,63 @@ fn ask(table: &mut Table, random: &mut Random, picture: &Picture, bytes: &[u8], 
     }
 }
 
+fn ask_pictures(table: &mut Table, random: &mut Random) {
+    for round in 0..ROUNDS {
+        for shape in SHAPES {
+            let size = Size::small(random);
+            let picture = network(random, shape, size);
+            let mut bytes = pack(&picture);
+            if round == ROUNDS - 1 {
+                let place = random.below(bytes.len());
+                bytes[place] ^= 1 << random.below(8);
+            }
+            let read = peer::read(&bytes).unwrap_or(picture);
+            ask(table, random, &read, &bytes, round);
+        }
+    }
+}
+
+/// Write with a buffer that has old bytes of chance.
+fn ask_write(table: &mut Table, random: &mut Random, lists: &Lists, room: usize) {
+    let mut lent: Vec<u8> = (0..room).map(|_| random.byte()).collect();
+    let question = format!("write {} {}", record(lists), list(&lent));
+    let answer = write(lists, &mut lent);
+    table.add_buffer(question, answer, &lent);
+}
+
+/// Lists that are right with each kind of buffer, with each kind of fault, and with all faults from
+/// each kind on, so that the order shows.
+fn ask_lists(table: &mut Table, random: &mut Random) {
+    let size = Size::small(random);
+    let shape = *random.pick(&SHAPES);
+    let mut right = lists_of(&network(random, shape, size));
+    right.weights.fill_with(|| random.draw() as u16);
+    let length = write(&right, &mut [0; ROOM]).expect("networks are accepted");
+    for room in [length, length - 1, length + random.between(1, 9)] {
+        ask_write(table, random, &right, room);
+    }
+    for first in 0..FAULTS.len() {
+        let mut lists = right.clone();
+        FAULTS[first](random, &mut lists);
+        ask_write(table, random, &lists, length);
+        for fault in &FAULTS[first + 1..] {
+            fault(random, &mut lists);
+        }
+        ask_write(table, random, &lists, 0);
+    }
+}
+
+/// Block sizes and numbers of slots that a picture may have and may not.
+fn ask_blocks(table: &mut Table, random: &mut Random) {
+    for (block_size, slots) in [(1, 0), (1, 60), (1, 61), (8, 8), (9, 9), (3, 4)] {
+        let mut lists = lists_of(&samples::case('M'));
+        lists.block_size = block_size;
+        lists.states.resize(slots, 2);
+        lists.near.resize(slots, false);
+        ask_write(table, random, &lists, 40);
+    }
+}
+
 fn main() {
     let arguments: Vec<String> = env::args().skip(1).collect();
     let seed = match arguments.as_slice() {
@@ -109,19 +199,13 @@ fn main() {
     };
     let mut random = Random::new(seed);
     let mut table = Table { rows: Vec::new() };
-    for round in 0..ROUNDS {
-        for shape in SHAPES {
-            let size = Size::small(&mut random);
-            let picture = network(&mut random, shape, size);
-            let mut bytes = write(&picture);
-            if round == ROUNDS - 1 {
-                let place = random.below(bytes.len());
-                bytes[place] ^= 1 << random.below(8);
-            }
-            let read = peer::read(&bytes).unwrap_or(picture);
-            ask(&mut table, &mut random, &read, &bytes, round);
-        }
+    ask_pictures(&mut table, &mut random);
+    let asked = table.rows.len();
+    for _ in 0..WRITTEN {
+        ask_lists(&mut table, &mut random);
     }
-    eprintln!("questions: {} of {} pictures", table.rows.len(), ROUNDS * SHAPES.len());
+    ask_blocks(&mut table, &mut random);
+    let written = table.rows.len() - asked;
+    eprintln!("questions: {asked} of {} pictures, {written} of lists", ROUNDS * SHAPES.len());
     println!("unfoldable pub table : List Row\ntable =\n    {}\n    ∷ []", table.rows.join("\n    ∷ "));
 }

@@ -1,10 +1,8 @@
 -- `blockplan_choose` is one call, and answers its number. Assumes nothing.
 use mathlib.Core.Path.{sym, ap, _∙_}
-use Rattle.choose.specs.declared.Choosing.{Choosing}
 use Rattle.choose.specs.Answers.{choosingNumbers}
-use Rattle.blockplan_c.specs.Answers.{toC}
-use Rattle.blockplan_c.proofs.Numbers.{passed-on, refused-number}
-use Rattle.blockplan_c.proofs.Lengths.{told-small}
+use Rattle.blockplan_c.proofs.Numbers.{length-told, refusal-told}
+use Rattle.blockplan_c.proofs.Lengths.{chosen-small}
 use borrow.Author.Needs.{needs}
 use Rattle.blockplan_c.proofs.blockplan_choose.Statement.{statement}
 use Rattle.blockplan_c.proofs.blockplan_choose.Tie as tie
@@ -16,7 +14,10 @@ enum-known-length : tie.Need-enum-known-length
 enum-known-length c = search needs
 
 length-number-requires : tie.Need-length-number-requires
-length-number-requires c κs = told-small _ _ _ (sym (sym (c .before .length .given .1) ∙ c .before .before .before .before .before .choose .ensures .0))
+unfolding choosingNumbers
+length-number-requires c κs =
+    let k = c .before in
+    chosen-small _ _ _ (ap choosingNumbers (sym (k .length .given .1)) ∙ k .before .before .before .before .choose .ensures .1 .0)
 
 enum-known-number : tie.Need-enum-known-number
 enum-known-number c = search needs
@@ -28,19 +29,19 @@ same-length : tie.Need-same-length
 same-length c = search needs
 
 returns : tie.Need-returns
-unfolding toC choosingNumbers
+unfolding choosingNumbers
 returns c =
     let k = c .before .before .before .before .before .before .choose .ensures in
-    (passed-on (c .length-number .ensures .1) (c .length-number .ensures .0 ∙ ap (λ (x : Choosing). toC (choosingNumbers x)) (sym (c .before .before .length .given .1) ∙ k .0)) .0, k .1 .1)
+    (length-told (c .length-number .ensures .1) (c .length-number .ensures .0) (ap choosingNumbers (sym (c .before .before .length .given .1) ∙ k .0)), k .1 .1)
 
 same-length-2 : tie.Need-same-length-2
 same-length-2 c = search needs
 
 returns-2 : tie.Need-returns-2
-unfolding toC choosingNumbers
+unfolding choosingNumbers
 returns-2 c =
     let k = c .before .before .before .before .before .before .choose .ensures in
-    (passed-on (c .refusal .ensures .1) (c .refusal .ensures .0 ∙ refused-number (c .before .before .number .given .0 .0) ∙ ap (λ (x : Choosing). toC (choosingNumbers x)) (sym (c .before .before .number .given .1) ∙ k .0)) .0, k .1 .1)
+    (refusal-told (c .refusal .ensures .1) (c .refusal .ensures .0) (ap choosingNumbers (sym (c .before .before .number .given .1) ∙ k .0)), k .1 .1)
 
 pub blockplan-choose-spec : {M : Type 1} → statement M
 blockplan-choose-spec =

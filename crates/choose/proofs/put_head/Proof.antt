@@ -2,11 +2,12 @@
 use mathlib.Core.Path.{refl}
 use native.Mathlib.Omega.{arith}
 use Rattle.lists.specs.Lists.{sum}
+use Rattle.packing.specs.Packing.{fieldsOf}
 use Rattle.packing.specs.Holding.{span}
+use Rattle.packing.proofs.Putting.{puts-none, puts-next}
 use Rattle.evidence.specs.Layout.{headWidths}
-use Rattle.evidence.specs.Canonical.{fieldsOf, headFields}
+use Rattle.evidence.specs.Canonical.{headFields}
 use Rattle.evidence.proofs.Places.{head-whole}
-use Rattle.choose.proofs.Writing.{puts-none, puts-next}
 use borrow.Author.Needs.{needs}
 use Rattle.choose.proofs.put_head.Statement.{statement}
 use Rattle.choose.proofs.put_head.Tie as tie

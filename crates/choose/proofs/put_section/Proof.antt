@@ -2,20 +2,25 @@
 use mathlib.Core.Path.{refl}
 use Prim.Native.Nat.{ℕ}
 use native.Mathlib.Omega.{arith}
+use Rattle.packing.specs.Packing.{fieldsOf}
 use Rattle.packing.specs.Holding.{span}
-use Rattle.packing.proofs.Putting.{put-behind, put-same}
+use Rattle.packing.proofs.Putting.{put-behind, put-same, puts-none, puts-next}
 use Rattle.evidence.specs.Layout.{sectionWidths}
-use Rattle.evidence.specs.Canonical.{fieldsOf}
 use Rattle.evidence.proofs.Places.{section-bytes}
 use Rattle.choose.specs.Writing.{arraySection}
-use Rattle.choose.proofs.Writing.{puts-none, puts-next}
 use borrow.Author.Needs.{needs}
 use Rattle.choose.proofs.put_section.Statement.{statement}
 use Rattle.choose.proofs.put_section.Tie as tie
 
--- the slots
+-- the slots, where the first field is written, and where each of the others is, from behind the field before it
 abbrev n : tie.After-put-field-arg → ℕ
 n c = c .before .before .before .before .args .n
+
+abbrev second : tie.After-put-field-arg2 → ℕ
+second c = n (c .before .before .before .before)
+
+abbrev third : tie.After-put-field-arg3 → ℕ
+third c = second (c .before .before .before .before)
 
 mul-q : tie.Need-mul-q
 mul-q c = search needs
@@ -27,19 +32,19 @@ add-put-field : tie.Need-add-put-field
 add-put-field c = search needs
 
 put-field-requires-2 : tie.Need-put-field-requires-2
-put-field-requires-2 c κs = omega (arith, section-bytes (n (c .before .before .before .before)))
+put-field-requires-2 c κs = omega (arith, section-bytes (second c))
 
 add-put-field-2 : tie.Need-add-put-field-2
 add-put-field-2 c = search needs
 
 put-field-requires-3 : tie.Need-put-field-requires-3
-put-field-requires-3 c κs = omega (arith, section-bytes (n (c .before .before .before .before .before .before .before .before)))
+put-field-requires-3 c κs = omega (arith, section-bytes (third c))
 
 add-put-forest : tie.Need-add-put-forest
 add-put-forest c = search needs
 
 put-forest-requires : tie.Need-put-forest-requires
-put-forest-requires c κs = omega (arith, section-bytes (n (c .before .before .before .before .before .before .before .before .before .before .before .before)))
+put-forest-requires c κs = omega (arith, section-bytes (third (c .before .before .before .before)))
 
 same-length : tie.Need-same-length
 same-length c = search needs

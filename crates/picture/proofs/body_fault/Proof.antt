@@ -8,7 +8,7 @@ use Rattle.lists.specs.Lists.{first}
 use Rattle.lists.proofs.Faults.{skip-at, stop-at, end-at}
 use Rattle.picture.specs.Layout.{edition1}
 use Rattle.picture.specs.Picture.{pictureWith}
-use Rattle.picture.specs.Faults.{bodyFaults}
+use Rattle.picture.specs.Faults.{listFaults, bodyFaults}
 use Rattle.picture.proofs.Finding.{tells, passes}
 use borrow.Author.Needs.{needs}
 use Rattle.picture.proofs.body_fault.Statement.{statement}
@@ -25,47 +25,47 @@ abbrev Past : ℕ → tie.Else1 → Type 0
 Past k c = first (drop k (faults c)) ≡ first (faults c)
 
 past-states : (c : tie.Else1) → Past 1 c
-unfolding bodyFaults
+unfolding bodyFaults listFaults
 past-states c = skip-at _ (c .if1 .left) (c .before .states-fault .ensures) refl
 
 past-links : (c : tie.Else2) → Past 2 (c .before .before)
-unfolding bodyFaults
+unfolding bodyFaults listFaults
 past-links c = skip-at _ (c .if2 .left) (c .before .links-fault .ensures) refl ∙ past-states (c .before .before)
 
 past-services : (c : tie.Else3) → Past 3 (c .before .before .before .before)
-unfolding bodyFaults
+unfolding bodyFaults listFaults
 past-services c = skip-at _ (c .if3 .left) (c .before .service-links-fault .ensures) refl ∙ past-links (c .before .before)
 
 states-fault-requires : tie.Need-states-fault-requires
 states-fault-requires c κs = search needs
 
 returns : tie.Need-returns
-unfolding bodyFaults
+unfolding bodyFaults listFaults
 returns c = stop-at _ (c .if1 .taken) (c .before .states-fault .ensures)
 
 links-fault-requires : tie.Need-links-fault-requires
 links-fault-requires c κs = search needs
 
 returns-2 : tie.Need-returns-2
-unfolding bodyFaults
+unfolding bodyFaults listFaults
 returns-2 c = stop-at _ (c .if2 .taken) (c .before .links-fault .ensures) ∙ past-states (c .before .before)
 
 service-links-fault-requires : tie.Need-service-links-fault-requires
 service-links-fault-requires c κs = search needs
 
 returns-3 : tie.Need-returns-3
-unfolding bodyFaults
+unfolding bodyFaults listFaults
 returns-3 c = stop-at _ (c .if3 .taken) (c .before .service-links-fault .ensures) ∙ past-links (c .before .before)
 
 end-right-requires : tie.Need-end-right-requires
 end-right-requires c κs = search needs
 
 returns-4 : tie.Need-returns-4
-unfolding bodyFaults
+unfolding bodyFaults listFaults
 returns-4 c = end-at ∙ passes 7 _ (ap not (sym (c .before .end-right .ensures) ∙ c .if4 .taken)) ∙ past-services (c .before .before)
 
 returns-5 : tie.Need-returns-5
-unfolding bodyFaults
+unfolding bodyFaults listFaults
 returns-5 c = tells _ (ap not (sym (c .before .end-right .ensures) ∙ c .if4 .left)) ∙ past-services (c .before .before)
 
 pub body-fault-spec : {M : Type 1} → statement M

@@ -1,15 +1,12 @@
 -- `states_fault` finds the first slot without one of the three states. Assumes nothing.
-use mathlib.Core.Path.{_≡_, refl, sym, ap, _∙_}
-use Prim.Native.Nat.{ℕ, _-_}
+use mathlib.Core.Path.{_≡_, refl, ap, _∙_}
+use mathlib.Core.Bool.{false}
+use Prim.Native.Nat.{_-_}
 use native.Mathlib.Omega.{arith}
-use mathlib.Core.Bool.{Bool, false}
-use lib.Dec.{eqb}
 use lib.ListN.{getD}
-use borrow.Author.Tests.{eq-eqb, ne-eqb}
-use Rattle.lists.specs.Lists.{on}
-use Rattle.picture.specs.Layout.{edition1, noState}
+use Rattle.picture.specs.Layout.{edition1}
 use Rattle.picture.specs.Picture.{Slot, pictureWith, slotOf}
-use Rattle.picture.specs.Faults.{slotFault}
+use Rattle.picture.specs.Faults.{stateFault}
 use Rattle.picture.proofs.Starts.{item-next, slots-length}
 use Rattle.picture.proofs.Finding.{Scanning, scanning-begun, scanning-hit, scanning-miss, scanning-ended}
 use borrow.Author.Needs.{needs}
@@ -21,16 +18,16 @@ abbrev none : Slot
 none = record { state = 2; near = false }
 
 abbrev Inv-loop : tie.InvT-loop
-Inv-loop s h n i₀ i = Scanning slotFault none (pictureWith edition1 h s .slots) (h .slots) i
+Inv-loop s h n i₀ i = Scanning (λ q. stateFault (q .state)) none (pictureWith edition1 h s .slots) (h .slots) i
 
 abbrev μ-loop : tie.MeasureT-loop
 μ-loop s h n i₀ i = h .slots - i
 
 -- the fault of the slot at hand, by the state that was read
-fault : (c : tie.After-slot-state Inv-loop μ-loop) → let l = c .before .before in let a = l .before .before .args in
-    on (eqb (c .slot-state .result) noState) 5 ≡ slotFault (getD (pictureWith edition1 (a .h) (a .s .now) .slots) (l .loop .i) none)
-unfolding slotFault slotOf
-fault c = ap (λ (x : ℕ). on (eqb x noState) 5) (rw item-next at (c .slot-state .ensures))
+fault : (c : tie.After-state-fault Inv-loop μ-loop) → let l = c .before .before .before in let a = l .before .before .args in
+    c .state-fault .result ≡ stateFault (getD (pictureWith edition1 (a .h) (a .s .now) .slots) (l .loop .i) none .state)
+unfolding slotOf
+fault c = c .state-fault .ensures ∙ ap stateFault (rw item-next at (c .before .slot-state .ensures))
 
 loop-holds : tie.Need-loop-holds Inv-loop μ-loop
 loop-holds c = scanning-begun (slots-length edition1 _ _)
@@ -41,11 +38,11 @@ add-slot-state c = search needs
 slot-state-requires : tie.Need-slot-state-requires Inv-loop μ-loop
 slot-state-requires c κs = search needs
 
+state-fault-requires : tie.Need-state-fault-requires Inv-loop μ-loop
+state-fault-requires c κs = search needs
+
 returns : tie.Need-returns Inv-loop μ-loop
-unfolding on
-returns c =
-    let told = sym (ap (λ (b : Bool). on b 5) (eq-eqb _ _ (c .if1 .taken))) ∙ fault (c .before) in
-    scanning-hit (c .before .before .before .loop .inv) (omega arith) refl told (λ e. absurd (omega arith))
+returns c = scanning-hit (c .before .before .before .before .loop .inv) (omega arith) refl (fault (c .before)) (c .if1 .taken)
 
 add-i : tie.Need-add-i Inv-loop μ-loop
 add-i c = search needs
@@ -54,8 +51,7 @@ loop-less : tie.Need-loop-less Inv-loop μ-loop
 loop-less c = search needs
 
 loop-again : tie.Need-loop-again Inv-loop μ-loop
-unfolding on
-loop-again c = scanning-miss (c .before .before .before .loop .inv) (omega arith) refl (fault (c .before)) (rw (ne-eqb _ _ (c .if1 .left)))
+loop-again c = scanning-miss (c .before .before .before .before .loop .inv) (omega arith) refl (fault (c .before)) (c .if1 .left)
 
 returns-2 : tie.Need-returns-2 Inv-loop μ-loop
 returns-2 c = scanning-ended (c .before .loop .inv) (omega arith)
@@ -69,6 +65,7 @@ states-fault-spec =
     loop-holds
     add-slot-state
     slot-state-requires
+    state-fault-requires
     returns
     add-i
     loop-less

@@ -1,9 +1,9 @@
 //! Acts one after another, and reloads at the edge of the near limit.
 
 use peer::networks::{network, Size, SHAPES};
+use peer::pack;
 use peer::picture::{Picture, State};
 use peer::random::Random;
-use peer::write;
 
 use super::harness::{Comparison, ACTS};
 use super::{choose_and_check, no_blocks};
@@ -18,7 +18,7 @@ pub fn near_limits(comparison: &mut Comparison, random: &mut Random, count: usiz
             let then = held_near_after_reload(&picture, block);
             for limit in [then.saturating_sub(1), then, then + 1] {
                 picture.near_limit = limit as u8;
-                comparison.act(&ACTS[1], &mut write(&picture), block as u32);
+                comparison.act(&ACTS[1], &mut pack(&picture), block as u32);
             }
         }
     }
@@ -41,7 +41,7 @@ pub fn sequences(comparison: &mut Comparison, random: &mut Random, count: usize)
         let shape = *random.pick(&SHAPES);
         let mut picture = network(random, shape, size);
         unprotect_some(random, &mut picture);
-        let mut bytes = write(&picture);
+        let mut bytes = pack(&picture);
         for step in 0..30 {
             let block = any_block(random, picture.block_count());
             // Freed slots never come back, so free is the rarest.

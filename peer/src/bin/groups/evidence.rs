@@ -4,7 +4,7 @@ use peer::choice::{section_bytes, HEAD_BYTES, SECTION_HEAD_BYTES};
 use peer::networks::{network, Size, SHAPES};
 use peer::picture::{Picture, State};
 use peer::random::Random;
-use peer::{samples, write};
+use peer::{pack, samples};
 
 use super::canonical;
 use super::harness::Comparison;
@@ -64,7 +64,7 @@ fn values(random: &mut Random, old: u32, slots: usize) -> Vec<u32> {
 /// Each byte of the samples' evidence with each value, each wider field with some, every truncation.
 pub fn of_samples(comparison: &mut Comparison, random: &mut Random, _: usize) {
     for sample in samples::small() {
-        let picture = write(&sample);
+        let picture = pack(&sample);
         let evidence = canonical(&picture).expect("the samples are accepted");
         for place in 0..evidence.len() {
             for value in 0..=255 {
@@ -88,7 +88,7 @@ pub fn fields(comparison: &mut Comparison, random: &mut Random, count: usize) {
         let shape = *random.pick(&SHAPES);
         let size = if round % 8 == 0 { Size::any(random) } else { Size::small(random) };
         let picture = network(random, shape, size);
-        let evidence = canonical(&write(&picture)).expect("networks are accepted");
+        let evidence = canonical(&pack(&picture)).expect("networks are accepted");
         if round % 8 == 0 {
             random_fields(comparison, random, &picture, &evidence, 30);
             continue;
@@ -102,7 +102,7 @@ pub fn fields(comparison: &mut Comparison, random: &mut Random, count: usize) {
 }
 
 fn each_field(comparison: &mut Comparison, random: &mut Random, picture: &Picture, evidence: &[u8]) {
-    let bytes = write(picture);
+    let bytes = pack(picture);
     for field in fields_of(evidence, picture.slots.len()) {
         for value in values(random, get(evidence, field), picture.slots.len()) {
             let mut changed = evidence.to_vec();
@@ -120,7 +120,7 @@ pub fn random_fields(
     evidence: &[u8],
     times: usize,
 ) {
-    let bytes = write(picture);
+    let bytes = pack(picture);
     let fields = fields_of(evidence, picture.slots.len());
     for _ in 0..times {
         let mut changed = evidence.to_vec();
@@ -149,7 +149,7 @@ fn heads(fields: &[Field], slots: usize) -> Vec<Field> {
 
 /// Every verdict with every block and with every loss that the sections state, and its neighbours.
 fn each_verdict(comparison: &mut Comparison, picture: &Picture, evidence: &[u8]) {
-    let bytes = write(picture);
+    let bytes = pack(picture);
     let slots = picture.slots.len();
     let sections = evidence[HEAD_BYTES + 2 * slots..].chunks(section_bytes(slots));
     let stated = sections.map(|section| get(section, Field { place: 1, bytes: 3 }));
@@ -173,16 +173,16 @@ fn each_verdict(comparison: &mut Comparison, picture: &Picture, evidence: &[u8])
 
 /// Evidence cut off or lengthened, and evidence of another picture.
 pub fn strangers(comparison: &mut Comparison, random: &mut Random, count: usize) {
-    let mut last = write(&samples::case_a());
+    let mut last = pack(&samples::case_a());
     for round in 0..2 * count {
         let shape = *random.pick(&SHAPES);
         let size = if round % 32 == 0 { Size::any(random) } else { Size::small(random) };
         let picture = network(random, shape, size);
-        let bytes = write(&picture);
+        let bytes = pack(&picture);
         let evidence = canonical(&bytes).expect("networks are accepted");
         other_lengths(comparison, random, &bytes, &evidence, picture.slots.len());
         for _ in 0..4 {
-            let other = write(&altered(random, &picture));
+            let other = pack(&altered(random, &picture));
             comparison.check(&other, &evidence);
             comparison.check(&bytes, &canonical(&other).expect("an altered network is accepted"));
         }

@@ -2,9 +2,9 @@
 
 use peer::foreign::{self, GROWTHS};
 use peer::networks::{network, Size, SHAPES};
+use peer::pack;
 use peer::picture::Picture;
 use peer::random::Random;
-use peer::write;
 
 use super::evidence::{forest_start, random_fields};
 use super::harness::Comparison;
@@ -17,7 +17,7 @@ pub fn foreign(comparison: &mut Comparison, random: &mut Random, count: usize) {
         let picture = network(random, shape, size);
         for growth in GROWTHS {
             let evidence = foreign::evidence(random, &picture, growth);
-            let answer = comparison.check(&write(&picture), &evidence);
+            let answer = comparison.check(&pack(&picture), &evidence);
             comparison.expect("check of valid foreign evidence", answer, 0);
             spoilt(comparison, random, &picture, &evidence);
         }
@@ -25,7 +25,7 @@ pub fn foreign(comparison: &mut Comparison, random: &mut Random, count: usize) {
 }
 
 fn spoilt(comparison: &mut Comparison, random: &mut Random, picture: &Picture, evidence: &[u8]) {
-    let bytes = write(picture);
+    let bytes = pack(picture);
     let ways = [rehang, rehang, drop, copy_forest, shift_depths, hang_on_itself];
     for way in ways {
         let mut changed = evidence.to_vec();

@@ -5,7 +5,7 @@ use std::ops::Range;
 use std::process::exit;
 
 use super::watch::{hexadecimal, install, watched, Call};
-use peer::archive;
+use peer::{archive, Lists};
 
 /// Guard bytes before and behind each buffer.
 const GUARD: usize = 256;
@@ -105,10 +105,7 @@ impl Comparison {
         let lent: Vec<u8> = (0..room).map(|place| 0x5A ^ (place as u8).wrapping_mul(7)).collect();
         let mut pictures = Pair::new("picture", picture, self.shift());
         let mut buffers = Pair::new("evidence", &lent, self.shift() / 2);
-        let peer = match peer::choose(pictures.peer.get(), buffers.peer.get_mut()) {
-            Ok(length) => length as i32,
-            Err(number) => -i32::from(number),
-        };
+        let peer = length_answer(peer::choose(pictures.peer.get(), buffers.peer.get_mut()));
         let inputs = vec![("picture", picture.to_vec())];
         let call = Call { name: "choose", inputs, number: ("buffer length", room), peer };
         let archive =
@@ -138,6 +135,22 @@ impl Comparison {
         self.judge(&call, archive, &[&pictures])
     }
 
+    /// Leaves the buffer as the call does.
+    pub fn write(&mut self, lists: &Lists, buffer: &mut [u8]) -> i32 {
+        let mut buffers = Pair::new("picture", buffer, self.shift());
+        let peer = length_answer(peer::write(lists, buffers.peer.get_mut()));
+        let inputs = columns(lists);
+        let call = Call { name: "write", inputs, number: ("buffer length", buffer.len()), peer };
+        let archive = watched(&call, || archive::write(lists, buffers.archive.get_mut()));
+        buffer.copy_from_slice(buffers.peer.get());
+        if columns(lists) != call.inputs {
+            self.print_place(&call);
+            println!("the archive writes into a list");
+            exit(1);
+        }
+        self.judge(&call, archive, &[&buffers])
+    }
+
     /// The two agree, but on an answer that the input is not built for.
     pub fn expect(&self, what: &str, answer: i32, due: i32) {
         if answer != due {
@@ -152,14 +165,34 @@ impl Comparison {
         if call.peer == archive && buffers.iter().all(|pair| pair.is_equal()) {
             return archive;
         }
-        println!("\ndifference in group \"{}\", input {}", self.group, self.total());
-        call.print();
+        self.print_place(call);
         println!("peer answers {}, archive answers {archive}", call.peer);
         for pair in buffers.iter().filter(|pair| !pair.is_equal()) {
             print_difference(pair);
         }
         exit(1);
     }
+
+    fn print_place(&self, call: &Call) {
+        println!("\ndifference in group \"{}\", input {}", self.group, self.total());
+        call.print();
+    }
+}
+
+/// The lists as bytes, to be printed and to be kept; numbers of 16 bits have the high byte first.
+fn columns(lists: &Lists) -> Vec<(&'static str, Vec<u8>)> {
+    let pairs = |links: &[[u16; 2]]| links.iter().flatten().flat_map(|end| end.to_be_bytes()).collect();
+    let marks = |marks: &[bool]| marks.iter().map(|mark| u8::from(*mark)).collect();
+    vec![
+        ("block size", lists.block_size.to_be_bytes().to_vec()),
+        ("near limit", vec![lists.near_limit]),
+        ("states", lists.states.clone()),
+        ("near", marks(&lists.near)),
+        ("weights", lists.weights.iter().flat_map(|weight| weight.to_be_bytes()).collect()),
+        ("protected", marks(&lists.protected)),
+        ("links", pairs(&lists.links)),
+        ("serving links", pairs(&lists.serving)),
+    ]
 }
 
 fn print_difference(pair: &Pair) {
@@ -179,9 +212,13 @@ fn print_difference(pair: &Pair) {
     println!("{} after the archive: {}", pair.name, hexadecimal(pair.archive.get()));
 }
 
-fn as_answer(result: Result<(), u8>) -> i32 {
+fn length_answer(result: Result<usize, u8>) -> i32 {
     match result {
-        Ok(()) => 0,
+        Ok(length) => length as i32,
         Err(number) => -i32::from(number),
     }
+}
+
+fn as_answer(result: Result<(), u8>) -> i32 {
+    length_answer(result.map(|()| 0))
 }

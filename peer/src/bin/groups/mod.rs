@@ -4,6 +4,7 @@ mod acts;
 mod evidence;
 mod forests;
 pub mod harness;
+mod lists;
 mod networks;
 mod pictures;
 mod raw;
@@ -19,7 +20,7 @@ const ROOM: usize = evidence_bytes(MAX_SLOTS, MAX_BLOCKS) + 11;
 
 type Group = fn(&mut Comparison, &mut Random, usize);
 
-pub const ALL: [(&str, Group); 22] = [
+pub const ALL: [(&str, Group); 28] = [
     ("truncations of the samples", pictures::truncations),
     ("bit flips of the samples", pictures::bit_flips),
     ("header fields, each value", pictures::header_fields),
@@ -42,6 +43,12 @@ pub const ALL: [(&str, Group); 22] = [
     ("evidence, foreign", forests::foreign),
     ("near limits", acts::near_limits),
     ("sequences of acts", acts::sequences),
+    ("lists: networks", lists::networks),
+    ("lists: limits and one more", lists::limits),
+    ("lists: unequal columns", lists::unequal_columns),
+    ("lists: each value", lists::values),
+    ("lists: several faults", lists::damaged),
+    ("lists: there and back", lists::there_and_back),
 ];
 
 /// The canonical evidence, or nothing if the picture is refused.

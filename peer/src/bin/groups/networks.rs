@@ -1,9 +1,9 @@
 //! Random networks of each shape, put through every call.
 
 use peer::networks::{network, repeat_links, Shape, Size, SHAPES};
+use peer::pack;
 use peer::picture::Picture;
 use peer::random::Random;
-use peer::write;
 
 use super::harness::Comparison;
 use super::{all_acts, choose_and_check, every_call, no_blocks};
@@ -14,7 +14,7 @@ pub fn small(comparison: &mut Comparison, random: &mut Random, count: usize) {
         for shape in SHAPES {
             let size = Size::small(random);
             let picture = network(random, shape, size);
-            every_call(comparison, random, &write(&picture));
+            every_call(comparison, random, &pack(&picture));
         }
     }
 }
@@ -71,7 +71,7 @@ fn of_shape(comparison: &mut Comparison, random: &mut Random, count: usize, shap
 
 /// Every call; every block in some of the networks, in the others a few.
 fn large(comparison: &mut Comparison, random: &mut Random, picture: &Picture, round: usize) {
-    let bytes = write(picture);
+    let bytes = pack(picture);
     if round % 8 == 0 {
         every_call(comparison, random, &bytes);
         return;

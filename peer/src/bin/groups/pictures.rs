@@ -3,7 +3,7 @@
 use peer::networks::{network, Size, SHAPES};
 use peer::picture::Picture;
 use peer::random::Random;
-use peer::{samples, write};
+use peer::{pack, samples};
 
 use super::harness::{Comparison, ACTS};
 use super::raw::{Header, Raw};
@@ -12,7 +12,7 @@ use super::{canonical, every_call, some_calls};
 /// Every sample cut off after every byte, and whole.
 pub fn truncations(comparison: &mut Comparison, random: &mut Random, _: usize) {
     for sample in samples::small() {
-        let bytes = write(&sample);
+        let bytes = pack(&sample);
         for length in 0..=bytes.len() {
             every_call(comparison, random, &bytes[..length]);
         }
@@ -22,7 +22,7 @@ pub fn truncations(comparison: &mut Comparison, random: &mut Random, _: usize) {
 /// Every sample with every single bit turned; the evidence is its own and the sample's.
 pub fn bit_flips(comparison: &mut Comparison, random: &mut Random, _: usize) {
     for sample in samples::small() {
-        let bytes = write(&sample);
+        let bytes = pack(&sample);
         let evidence = canonical(&bytes).expect("the samples are accepted");
         for bit in 0..8 * bytes.len() {
             let mut turned = bytes.clone();
@@ -98,7 +98,7 @@ fn any_network(random: &mut Random, round: usize) -> Picture {
 pub fn damaged(comparison: &mut Comparison, random: &mut Random, count: usize) {
     for round in 0..4 * count {
         let picture = any_network(random, round);
-        let bytes = write(&picture);
+        let bytes = pack(&picture);
         let evidence = canonical(&bytes).expect("networks are accepted");
         for _ in 0..2 {
             for damaged in [bytes_changed(random, &bytes), length_changed(random, &bytes)] {

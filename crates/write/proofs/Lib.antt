@@ -1,0 +1,9 @@
+-- Laws of writing pictures.
+pub mod Fields
+pub mod Judged
+pub mod Reading
+pub mod Trips
+pub mod Rows
+pub mod Judging
+pub mod Putting
+pub mod Answering

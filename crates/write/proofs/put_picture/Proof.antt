@@ -1,0 +1,219 @@
+-- `put_picture` writes the header, the four lists and the fill. Assumes nothing.
+use mathlib.Core.Path.{_≡_, refl, sym, ap, _∙_}
+use Prim.Native.Nat.{ℕ, _+_, _-_, _*_, _/_}
+use native.Mathlib.Omega.{arith}
+use lib.ListN.{length}
+use lib.Pow.{pow-pos}
+use Rattle.bits.specs.Bits.{putField}
+use Rattle.bits.specs.Pushing.{flushed}
+use Rattle.bits.proofs.Pushing.{flushed-whole}
+use Rattle.lists.specs.Lists.{sum}
+use Rattle.packing.specs.Holding.{Put}
+use Rattle.picture.specs.declared.Places.{Places}
+use Rattle.picture.specs.Layout.{edition1, headerWidths, endpointWidths, linkWidths, serviceLinkWidths, slotsAt, endpointsAt, linksAt, serviceLinksAt, endAt}
+use Rattle.picture.specs.Inner.{placesOf}
+use Rattle.picture.proofs.Starts.{ordered}
+use Rattle.write.specs.Columns.{Lists, handed, pictureFrom}
+use Rattle.write.specs.Fields.{pictureFields}
+use Rattle.write.specs.Inner.{under, Follows, Ready}
+use Rattle.write.proofs.Fields.{slots-of, endpoints-of, links-of, services-of}
+use Rattle.write.proofs.Putting.{follows-at, ready-limited, ready-ends, slots-to, endpoints-to, links-to, services-to, header-ready, slots-ready, endpoints-ready, links-ready, services-ready, picture-put, picture-written}
+use borrow.Author.Needs.{needs}
+use Rattle.write.proofs.put_picture.Statement.{statement}
+use Rattle.write.proofs.put_picture.Tie as tie
+
+-- ---- places in the code
+
+-- where it starts, and where the places of the parts are found, from behind each call
+abbrev start : tie.After-find-places → tie.Start
+start c = c .before .before .before .before .before .before
+
+abbrev found : tie.After-put-header → tie.After-find-places
+found c = c .before .before
+
+abbrev headed : tie.After-push-slots → tie.After-put-header
+headed c = c .before .before .before .before
+
+abbrev slotted : tie.After-push-endpoints → tie.After-push-slots
+slotted c = c .before .before .before .before
+
+abbrev ended : tie.After-push-links → tie.After-push-endpoints
+ended c = c .before .before .before .before
+
+abbrev linked : tie.After-push-links2 → tie.After-push-links
+linked c = c .before .before .before .before
+
+-- ---- what is known there
+
+abbrev lists : tie.After-find-places → Lists
+lists c =
+    let a = start c .args in
+    under (a .h) (a .states .now) (a .is-near .now) (a .weights .now) (a .is-protected .now) (a .links .now) (a .service-links .now)
+
+ready : (c : tie.After-find-places) → Ready (lists c) (start c .args .h) (start c .args .buf .now)
+ready c = start c .pre
+
+-- the places that were found are the layout's
+places : (c : tie.After-find-places) → c .find-places .result ≡ placesOf edition1 (start c .args .h)
+places c = c .find-places .ensures
+
+endpoints-at : (c : tie.After-find-places) → c .find-places .result .endpoints ≡ endpointsAt edition1 (start c .args .h)
+unfolding placesOf
+endpoints-at c = ap (λ (p : Places). p .endpoints) (places c)
+
+links-at : (c : tie.After-find-places) → c .find-places .result .links ≡ linksAt edition1 (start c .args .h)
+unfolding placesOf
+links-at c = ap (λ (p : Places). p .links) (places c)
+
+services-at : (c : tie.After-find-places) → c .find-places .result .«service_links» ≡ serviceLinksAt edition1 (start c .args .h)
+unfolding placesOf
+services-at c = ap (λ (p : Places). p .«service_links») (places c)
+
+end-at : (c : tie.After-find-places) → c .find-places .result .end ≡ endAt edition1 (start c .args .h)
+unfolding placesOf
+end-at c = ap (λ (p : Places). p .end) (places c)
+
+-- ---- each list stands behind the one before, between the layout's places
+
+slots : (c : tie.After-push-slots) → let f = found (headed c) in let h = start f .args .h in
+    Follows (headed c .put-header .last .0) (slotsAt edition1) 0 (slots-of edition1 (pictureFrom (lists f))) (c .push-slots .last .0) (endpointsAt edition1 h) (c .push-slots .result)
+unfolding under handed pictureFrom slotsAt headerWidths sum
+slots c = follows-at (c .push-slots .ensures) refl (slots-to (ready (found (headed c))))
+
+endpoints : (c : tie.After-push-endpoints) → let s = slotted c in let f = found (headed s) in let h = start f .args .h in
+    Follows (s .push-slots .last .0) (endpointsAt edition1 h) (s .push-slots .result) (endpoints-of edition1 (pictureFrom (lists f))) (c .push-endpoints .last .0) (linksAt edition1 h)
+    (c .push-endpoints .result)
+unfolding under handed pictureFrom
+endpoints c =
+    let f = found (headed (slotted c)) in
+    follows-at (c .push-endpoints .ensures) (endpoints-at f) (ap (λ (n : ℕ). n + length (start f .args .weights .now) * sum endpointWidths) (endpoints-at f) ∙ endpoints-to (ready f))
+
+links : (c : tie.After-push-links) → let e = ended c in let f = found (headed (slotted e)) in let h = start f .args .h in
+    Follows (e .push-endpoints .last .0) (linksAt edition1 h) (e .push-endpoints .result) (links-of edition1 (pictureFrom (lists f))) (c .push-links .last .0) (serviceLinksAt edition1 h)
+    (c .push-links .result)
+unfolding under handed pictureFrom linkWidths sum
+links c =
+    let f = found (headed (slotted (ended c))) in
+    follows-at (c .push-links .ensures) (links-at f) (ap (λ (n : ℕ). n + length (start f .args .links .now) * sum (linkWidths edition1)) (links-at f) ∙ links-to (ready f))
+
+services : (c : tie.After-push-links2) → let k = linked c in let f = found (headed (slotted (ended k))) in let h = start f .args .h in
+    Follows (k .push-links .last .0) (serviceLinksAt edition1 h) (k .push-links .result) (services-of edition1 (pictureFrom (lists f))) (c .push-links2 .last .0) (endAt edition1 h)
+    (c .push-links2 .result)
+unfolding under handed pictureFrom serviceLinkWidths sum
+services c =
+    let f = found (headed (slotted (ended (linked c)))) in
+    follows-at (c .push-links2 .ensures) (services-at f) (ap (λ (n : ℕ). n + length (start f .args .service-links .now) * sum (serviceLinkWidths edition1)) (services-at f) ∙ services-to (ready f))
+
+-- the header and the four lists stand in the buffer
+put-all : (c : tie.After-push-links2) → let f = found (headed (slotted (ended (linked c)))) in
+    Put (start f .args .buf .now) 0 (pictureFields edition1 (pictureFrom (lists f))) (flushed (c .push-links2 .last .0) (endAt edition1 (start f .args .h)) (c .push-links2 .result))
+put-all c =
+    let k = linked c in
+    let e = ended k in
+    let s = slotted e in
+    picture-put (ready (found (headed s))) (headed s .put-header .ensures) (slots s) (endpoints e) (links k) (services c)
+
+-- the buffer keeps its length
+slots-long : (c : tie.After-push-slots) → length (c .push-slots .last .0) ≡ length (start (found (headed c)) .args .buf .now)
+slots-long c = c .push-slots .ensures .long ∙ headed c .put-header .ensures .long
+
+endpoints-long : (c : tie.After-push-endpoints) → length (c .push-endpoints .last .0) ≡ length (start (found (headed (slotted c))) .args .buf .now)
+endpoints-long c = c .push-endpoints .ensures .long ∙ slots-long (slotted c)
+
+links-long : (c : tie.After-push-links) → length (c .push-links .last .0) ≡ length (start (found (headed (slotted (ended c)))) .args .buf .now)
+links-long c = c .push-links .ensures .long ∙ endpoints-long (ended c)
+
+-- ---- the answers
+
+find-places-requires : tie.Need-find-places-requires
+find-places-requires c κs = ready-limited (c .before .before .before .before .before .pre)
+
+put-header-requires : tie.Need-put-header-requires
+put-header-requires c κs = header-ready (ready (c .before)) refl
+
+push-slots-requires : tie.Need-push-slots-requires
+unfolding under handed slotsAt headerWidths sum
+push-slots-requires c κs =
+    let h = c .before .before .before in
+    slots-ready (ready (found h)) (h .put-header .ensures .long)
+
+push-endpoints-requires : tie.Need-push-endpoints-requires
+unfolding under handed
+push-endpoints-requires c κs =
+    let s = c .before .before .before in
+    let f = found (headed s) in
+    rw (endpoints-at f) (endpoints-ready (ready f) (slots-long s) (slots s .small))
+
+push-links-requires : tie.Need-push-links-requires
+unfolding under handed
+push-links-requires c κs =
+    let e = c .before .before .before in
+    let f = found (headed (slotted e)) in
+    rw (links-at f) (links-ready (ready f) (endpoints-long e) (endpoints e .small))
+
+push-links-requires-2 : tie.Need-push-links-requires-2
+unfolding under handed
+push-links-requires-2 c κs =
+    let k = c .before .before .before in
+    let f = found (headed (slotted (ended k))) in
+    rw (services-at f) (services-ready (ready f) (links-long k) (links k .small))
+
+-- the end is a small number, and the fill goes up to the last byte
+add-fill : tie.Need-add-fill
+add-fill c =
+    let f = found (headed (slotted (ended (linked (c .before .before))))) in
+    omega (arith, end-at f, ordered _ (ready-limited (ready f)) .small)
+
+mul-fill : tie.Need-mul-fill
+mul-fill c =
+    let f = found (headed (slotted (ended (linked (c .before .before))))) in
+    omega (arith, end-at f, ordered _ (ready-limited (ready f)) .small)
+
+sub-fill : tie.Need-sub-fill
+sub-fill c = search needs
+
+push-field-requires : tie.Need-push-field-requires
+push-field-requires c κs =
+    let k = c .before .before .before in
+    let f = found (headed (slotted (ended (linked k)))) in
+    let long = k .push-links2 .ensures .long ∙ links-long (linked k) in
+    record {
+      room = omega (arith, end-at f, ready-ends (ready f), long);
+      low = omega (arith, end-at f, ordered _ (ready-limited (ready f)) .small);
+      wide = omega arith;
+      few = rw (end-at f) (services k .small);
+      value = pow-pos _;
+    }
+
+same-length : tie.Need-same-length
+same-length c = search needs
+
+returns : tie.Need-returns
+returns c =
+    let w = c .before .before in
+    let k = w .before .before .before .before in
+    let f = found (headed (slotted (ended (linked k)))) in
+    let end = f .find-places .result .end in
+    let whole = flushed-whole (w .push-field .last .0) (end + ((end + 7) / 8 * 8 - end)) (w .push-field .result) (omega arith) in
+    let made =
+    sym whole ∙ w .push-field .ensures .same
+    ∙ ap (λ (n : ℕ). putField (flushed (k .push-links2 .last .0) n (k .push-links2 .result)) n ((n + 7) / 8 * 8 - n) 0) (end-at f) in
+    picture-written (ready f) (put-all k) made (λ j. omega (arith, f .before .before .before .before .before .slice-known .given j))
+    (λ j. omega (arith, c .slice-known7 .given j))
+
+pub put-picture-spec : {M : Type 1} → statement M
+put-picture-spec =
+    tie.close
+    (tie.spec
+    find-places-requires
+    put-header-requires
+    push-slots-requires
+    push-endpoints-requires
+    push-links-requires
+    push-links-requires-2
+    add-fill
+    mul-fill
+    sub-fill
+    push-field-requires
+    same-length
+    returns)

@@ -1,0 +1,370 @@
+// Writing a picture from lists, in a lent buffer.
+ghost use mathlib.Core.Path.{_≡_};
+ghost use mathlib.Core.Bool.{Bool};
+ghost use mathlib.Core.List.{[], _∷_, map, zipWith};
+ghost use Prim.Native.Nat.{_+_, _*_, _<_};
+ghost use lib.ListN.{length, getD};
+ghost use Rattle.lists.specs.Lists.{first, sum, flat};
+ghost use Rattle.packing.specs.Packing.{fieldsOf};
+ghost use Rattle.packing.specs.Holding.{Put};
+ghost use Rattle.picture.specs.Layout.{edition1, slotWidths, endpointWidths};
+ghost use Rattle.picture.specs.Faults.{stateFault};
+ghost use Rattle.write.specs.Columns.{handed, slotFrom, endpointFrom, linkFrom};
+ghost use Rattle.write.specs.Fields.{headerFields, slotFields, endpointFields, linkFields};
+ghost use Rattle.write.specs.Faults.{handedFaults};
+ghost use Rattle.write.specs.Answers.{Writes};
+ghost use Rattle.write.specs.Inner.{columnsHeader, under, pairFault, Follows, PairFits, SlotsFit, EndpointsFit, LinksFit, HeaderFits, Ready, Written};
+use picture::BLOCK_SIZE_AT;
+use picture::BLOCK_SIZE_BITS;
+use picture::EDITION;
+use picture::EDITION_BITS;
+use picture::ENDPOINT_BITS;
+use picture::ENDPOINT_ROW;
+use picture::ENDPOINTS_AT;
+use picture::ENDPOINTS_BITS;
+use picture::HEADER_BITS;
+use picture::Header;
+use picture::LINKS_AT;
+use picture::LINKS_BITS;
+use picture::LOCATION_BITS;
+use picture::Link;
+use picture::NEAR_BITS;
+use picture::NEAR_LIMIT_AT;
+use picture::NEAR_LIMIT_BITS;
+use picture::PROTECTED_BITS;
+use picture::SERVICE_LINKS_AT;
+use picture::SLOT_ROW;
+use picture::SLOTS_AT;
+use picture::SLOTS_BITS;
+use picture::STATE_BITS;
+use picture::WEIGHT_BITS;
+use picture::refusals::BLOCKS;
+use picture::refusals::BUFFER;
+use picture::refusals::COUNTS;
+
+// What writing answers.
+pub enum Writing {
+    Length(usize),
+    Refused(u8),
+}
+
+// The same number in a word: of an argument it is known that it fits.
+fn wide(x: u16) -> usize
+    ensures { λ r. ⌜ r ≡ x ⌝ }
+{
+    x as usize
+}
+
+// The link at place i of a list of pairs.
+fn link_at(pairs: &[[u16; 2]], i: usize) -> Link
+    requires { ⌜ i < length (now pairs) ⌝ }
+    ensures { λ r. ⌜ r ≡ linkFrom (getD (now (pairs .entry)) i []) ⌝ }
+{
+    Link {
+        from: wide(pairs[i][0]),
+        to: wide(pairs[i][1]),
+    }
+}
+
+// The fault of the first state that is none of the three.
+fn states_fault(states: &[u8]) -> u8
+    ensures { λ r. ⌜ r ≡ first (map stateFault (now (states .entry))) ⌝ }
+{
+    let mut i: usize = 0;
+    while i < states.len() {
+        let fault = picture::state_fault(states[i] as usize);
+        if fault != 0 {
+            return fault;
+        }
+        i += 1;
+    }
+    0
+}
+
+// The fault of one service link, or of one link.
+fn pair_fault(l: Link, n: usize, d: usize, serves: bool) -> u8
+    ensures { λ r. ⌜ r ≡ pairFault n d serves l ⌝ }
+{
+    if serves {
+        return picture::service_link_fault(l, n, d);
+    }
+    picture::link_fault(l, n)
+}
+
+// The fault of the first service link that has one, or of the first link.
+fn pairs_fault(pairs: &[[u16; 2]], n: usize, d: usize, serves: bool) -> u8
+    ensures { λ r. ⌜ r ≡ first (map (pairFault n d serves) (map linkFrom (now (pairs .entry)))) ⌝ }
+{
+    let mut i: usize = 0;
+    while i < pairs.len() {
+        let fault = pair_fault(link_at(pairs, i), n, d, serves);
+        if fault != 0 {
+            return fault;
+        }
+        i += 1;
+    }
+    0
+}
+
+// The first fault of the states, the links and the service links, or 0.
+fn lists_fault(
+    states: &[u8],
+    links: &[[u16; 2]],
+    service_links: &[[u16; 2]],
+    n: usize,
+    d: usize,
+) -> u8
+    ensures { λ r.
+        ⌜ r ≡ first (first (map stateFault (now (states .entry)))
+        ∷ first (map (pairFault n d Bool.false) (map linkFrom (now (links .entry))))
+        ∷ first (map (pairFault n d Bool.true) (map linkFrom (now («service_links» .entry))))
+        ∷ []) ⌝ }
+{
+    let state = states_fault(states);
+    if state != 0 {
+        return state;
+    }
+    let link = pairs_fault(links, n, d, false);
+    if link != 0 {
+        return link;
+    }
+    pairs_fault(service_links, n, d, true)
+}
+
+// The first fault of the lists, in the reader's order, or 0. The header has the lengths of their first columns.
+fn handed_fault(
+    h: Header,
+    states: &[u8],
+    is_near: &[bool],
+    weights: &[u16],
+    is_protected: &[bool],
+    links: &[[u16; 2]],
+    service_links: &[[u16; 2]],
+) -> u8
+    requires { ⌜ h ≡ columnsHeader (under h (now states) (now «is_near») (now weights) (now «is_protected») (now links) (now «service_links»)) ⌝ }
+    ensures { λ r.
+        ⌜ r ≡ first (handedFaults (under h (now (states .entry)) (now («is_near» .entry)) (now (weights .entry)) (now («is_protected» .entry)) (now (links .entry)) (now («service_links» .entry)))) ⌝ }
+{
+    if states.len() != is_near.len() {
+        return BLOCKS;
+    }
+    let sizes = picture::sizes_right(h);
+    if !sizes {
+        return BLOCKS;
+    }
+    if weights.len() != is_protected.len() {
+        return COUNTS;
+    }
+    let counts = picture::counts_right(h);
+    if !counts {
+        return COUNTS;
+    }
+    lists_fault(states, links, service_links, h.slots, h.endpoints)
+}
+
+// Two adjacent fields behind what is written up to bit `at`, written as one; the bits that fill no byte yet are held.
+fn push_pair(
+    buf: &mut [u8],
+    at: usize,
+    held: usize,
+    first_bits: usize,
+    second_bits: usize,
+    first: usize,
+    second: usize,
+) -> usize
+    requires { ⌜ PairFits at held «first_bits» «second_bits» first second (now buf) ⌝ }
+    ensures { λ r.
+        ⌜ Follows (now (buf .entry)) at held (fieldsOf («first_bits» ∷ «second_bits» ∷ []) (first ∷ second ∷ [])) (now (buf .exit)) (at + («first_bits» + «second_bits»)) r ⌝ }
+{
+    bits::push_field(
+        buf,
+        at,
+        held,
+        first_bits + second_bits,
+        (first << second_bits) | second,
+    )
+}
+
+// State and near of each slot, from bit `at` on.
+fn push_slots(buf: &mut [u8], at: usize, held: usize, states: &[u8], is_near: &[bool]) -> usize
+    requires { ⌜ SlotsFit at held (now states) (now «is_near») (now buf) ⌝ }
+    ensures { λ r.
+        ⌜ Follows (now (buf .entry)) at held (flat (map slotFields (zipWith slotFrom (now (states .entry)) (now («is_near» .entry))))) (now (buf .exit)) (at + length (now (states .entry)) * sum slotWidths) r ⌝ }
+{
+    let mut rest = held;
+    let mut i: usize = 0;
+    while i < states.len() {
+        rest = push_pair(
+            buf,
+            at + i * SLOT_ROW,
+            rest,
+            STATE_BITS,
+            NEAR_BITS,
+            states[i] as usize,
+            is_near[i] as usize,
+        );
+        i += 1;
+    }
+    rest
+}
+
+// Weight and protection of each endpoint, from bit `at` on.
+fn push_endpoints(
+    buf: &mut [u8],
+    at: usize,
+    held: usize,
+    weights: &[u16],
+    is_protected: &[bool],
+) -> usize
+    requires { ⌜ EndpointsFit at held (now weights) (now «is_protected») (now buf) ⌝ }
+    ensures { λ r.
+        ⌜ Follows (now (buf .entry)) at held (flat (map endpointFields (zipWith endpointFrom (now (weights .entry)) (now («is_protected» .entry))))) (now (buf .exit)) (at + length (now (weights .entry)) * sum endpointWidths) r ⌝ }
+{
+    let mut rest = held;
+    let mut i: usize = 0;
+    while i < weights.len() {
+        rest = push_pair(
+            buf,
+            at + i * ENDPOINT_ROW,
+            rest,
+            WEIGHT_BITS,
+            PROTECTED_BITS,
+            weights[i] as usize,
+            is_protected[i] as usize,
+        );
+        i += 1;
+    }
+    rest
+}
+
+// The links or the service links, whose ends have these widths, from bit `at` on.
+fn push_links(
+    buf: &mut [u8],
+    at: usize,
+    held: usize,
+    pairs: &[[u16; 2]],
+    from_bits: usize,
+    to_bits: usize,
+) -> usize
+    requires { ⌜ LinksFit at held «from_bits» «to_bits» (now pairs) (now buf) ⌝ }
+    ensures { λ r.
+        ⌜ Follows (now (buf .entry)) at held (flat (map (linkFields («from_bits» ∷ «to_bits» ∷ [])) (map linkFrom (now (pairs .entry))))) (now (buf .exit)) (at + length (now (pairs .entry)) * («from_bits» + «to_bits»)) r ⌝ }
+{
+    let row = from_bits + to_bits;
+    let mut rest = held;
+    let mut i: usize = 0;
+    while i < pairs.len() {
+        let l = link_at(pairs, i);
+        rest = push_pair(buf, at + i * row, rest, from_bits, to_bits, l.from, l.to);
+        i += 1;
+    }
+    rest
+}
+
+// The header.
+fn put_header(buf: &mut [u8], h: Header)
+    requires { ⌜ HeaderFits h (now buf) ⌝ }
+    ensures { λ _. ⌜ Put (now (buf .entry)) 0 (headerFields edition1 h) (now (buf .exit)) ⌝ }
+{
+    bits::put_field(buf, 0, EDITION_BITS, EDITION);
+    bits::put_field(buf, BLOCK_SIZE_AT, BLOCK_SIZE_BITS, h.block_size);
+    bits::put_field(buf, SLOTS_AT, SLOTS_BITS, h.slots);
+    bits::put_field(buf, NEAR_LIMIT_AT, NEAR_LIMIT_BITS, h.near_limit);
+    bits::put_field(buf, ENDPOINTS_AT, ENDPOINTS_BITS, h.endpoints);
+    bits::put_field(buf, LINKS_AT, LINKS_BITS, h.links);
+    bits::put_field(buf, SERVICE_LINKS_AT, LINKS_BITS, h.service_links);
+}
+
+// The picture of lists that keep the rules, over the front of a buffer that is long enough.
+fn put_picture(
+    buf: &mut [u8],
+    h: Header,
+    states: &[u8],
+    is_near: &[bool],
+    weights: &[u16],
+    is_protected: &[bool],
+    links: &[[u16; 2]],
+    service_links: &[[u16; 2]],
+)
+    requires { ⌜ Ready (under h (now states) (now «is_near») (now weights) (now «is_protected») (now links) (now «service_links»)) h (now buf) ⌝ }
+    ensures { λ _.
+        ⌜ Written (under h (now (states .entry)) (now («is_near» .entry)) (now (weights .entry)) (now («is_protected» .entry)) (now (links .entry)) (now («service_links» .entry)))
+        (now (buf .entry)) (now (buf .exit)) ⌝ }
+{
+    let at = picture::find_places(h);
+    put_header(buf, h);
+    let behind_slots = push_slots(buf, HEADER_BITS, 0, states, is_near);
+    let behind_endpoints = push_endpoints(buf, at.endpoints, behind_slots, weights, is_protected);
+    let behind_links = push_links(
+        buf,
+        at.links,
+        behind_endpoints,
+        links,
+        LOCATION_BITS,
+        LOCATION_BITS,
+    );
+    let held = push_links(
+        buf,
+        at.service_links,
+        behind_links,
+        service_links,
+        LOCATION_BITS,
+        ENDPOINT_BITS,
+    );
+    let end = at.end;
+    let fill = (end + 7) / 8 * 8 - end;
+    bits::push_field(buf, end, held, fill, 0);
+}
+
+// Writes the picture of any lists into the buffer: its length, or the number of the first fault.
+pub fn write(
+    block_size: u32,
+    near_limit: u8,
+    states: &[u8],
+    is_near: &[bool],
+    weights: &[u16],
+    is_protected: &[bool],
+    links: &[[u16; 2]],
+    service_links: &[[u16; 2]],
+    buf: &mut [u8],
+) -> Writing
+    ensures { λ r.
+        ⌜ Writes (handed «block_size» «near_limit» (now (states .entry)) (now («is_near» .entry)) (now (weights .entry)) (now («is_protected» .entry)) (now (links .entry)) (now («service_links» .entry)))
+        (now (buf .entry)) r (now (buf .exit)) ⌝ }
+{
+    let h = Header {
+        block_size: block_size as usize,
+        slots: states.len(),
+        near_limit: near_limit as usize,
+        endpoints: weights.len(),
+        links: links.len(),
+        service_links: service_links.len(),
+    };
+    let number = handed_fault(
+        h,
+        states,
+        is_near,
+        weights,
+        is_protected,
+        links,
+        service_links,
+    );
+    if number != 0 {
+        return Writing::Refused(number);
+    }
+    let size = picture::size_of(h);
+    if buf.len() < size {
+        return Writing::Refused(BUFFER);
+    }
+    put_picture(
+        buf,
+        h,
+        states,
+        is_near,
+        weights,
+        is_protected,
+        links,
+        service_links,
+    );
+    Writing::Length(size)
+}

@@ -1,0 +1,336 @@
+//! Lists to be written as a picture: right ones, ones around the limits, and ones with faults.
+
+use peer::faults::{Fault, FAULTS};
+use peer::networks::{network, repeat_links, Size, SHAPES};
+use peer::picture::{picture_bytes, Picture, MAX_LINKS, MAX_PICTURE_BYTES};
+use peer::random::Random;
+use peer::{lists_of, pack, read, samples, Lists};
+
+use super::harness::Comparison;
+use super::raw::{Header, Raw};
+
+/// Longer than any picture.
+const ROOM: usize = MAX_PICTURE_BYTES + 11;
+/// More rows than 16 bits can count.
+const VERY_LONG: usize = 70_000;
+
+/// The length of the picture of lists that are right, and a fit length for others.
+fn due(lists: &Lists) -> usize {
+    let links = lists.links.len() + lists.serving.len();
+    picture_bytes(lists.states.len(), lists.weights.len(), links).min(ROOM)
+}
+
+/// A buffer with old bytes of chance, so that a bit which is not written shows.
+fn old_bytes(random: &mut Random, room: usize) -> Vec<u8> {
+    (0..room).map(|_| random.byte()).collect()
+}
+
+/// Write with every kind of buffer.
+fn every_buffer(comparison: &mut Comparison, random: &mut Random, lists: &Lists) {
+    let due = due(lists);
+    for room in [0, random.below(due), due - 1, due, due + random.between(1, 300)] {
+        comparison.write(lists, &mut old_bytes(random, room));
+    }
+}
+
+/// Write with a buffer that is just long enough, and one that is not.
+fn two_buffers(comparison: &mut Comparison, random: &mut Random, lists: &Lists) {
+    let short = random.below(due(lists));
+    for room in [due(lists), short] {
+        comparison.write(lists, &mut old_bytes(random, room));
+    }
+}
+
+/// Write of lists that are right: it is done, and what is written reads back to them.
+fn must_be_written(comparison: &mut Comparison, random: &mut Random, lists: &Lists) -> Vec<u8> {
+    let mut buffer = old_bytes(random, due(lists));
+    let answer = comparison.write(lists, &mut buffer);
+    comparison.expect("write of lists that are right", answer, due(lists) as i32);
+    let is_same = read(&buffer).is_ok_and(|picture| lists_of(&picture) == *lists);
+    comparison.expect("reading back to the same lists (1) or not (0)", is_same.into(), 1);
+    buffer
+}
+
+fn any_network(random: &mut Random, round: usize) -> Picture {
+    let size = match round % 64 {
+        0 => Size::full(random),
+        1..=4 => Size::any(random),
+        _ => Size::small(random),
+    };
+    let shape = *random.pick(&SHAPES);
+    let mut picture = network(random, shape, size);
+    if round % 64 == 0 {
+        repeat_links(random, &mut picture);
+    }
+    picture.near_limit = random.byte();
+    picture
+}
+
+/// Networks of every shape, some of them of any size and some at all limits.
+pub fn networks(comparison: &mut Comparison, random: &mut Random, count: usize) {
+    for round in 0..2 * count {
+        let lists = lists_of(&any_network(random, round));
+        must_be_written(comparison, random, &lists);
+        every_buffer(comparison, random, &lists);
+    }
+}
+
+const PLAIN: Size = Size { block_size: 2, slots: 8, endpoints: 3, links: 6, serving: 5 };
+
+/// Lists of these lengths, right or not, with values that fit them.
+fn lists_to(random: &mut Random, size: Size) -> Lists {
+    let location = |random: &mut Random| random.between(0, size.slots.min(240)) as u16;
+    let endpoint = |random: &mut Random| random.between(1, size.endpoints.clamp(1, 200)) as u16;
+    Lists {
+        block_size: size.block_size as u32,
+        near_limit: random.byte(),
+        states: (0..size.slots).map(|_| random.below(3) as u8).collect(),
+        near: (0..size.slots).map(|_| random.once_in(2)).collect(),
+        weights: (0..size.endpoints).map(|_| random.draw() as u16).collect(),
+        protected: (0..size.endpoints).map(|_| random.once_in(2)).collect(),
+        links: (0..size.links).map(|_| [location(random), location(random)]).collect(),
+        serving: (0..size.serving).map(|_| [location(random), endpoint(random)]).collect(),
+    }
+}
+
+fn of_size(comparison: &mut Comparison, random: &mut Random, size: Size) {
+    let lists = lists_to(random, size);
+    two_buffers(comparison, random, &lists);
+}
+
+/// Each limit and its neighbours, numbers that a field of the picture would cut to right ones, very
+/// long lists, and several of them together.
+pub fn limits(comparison: &mut Comparison, random: &mut Random, count: usize) {
+    for block_size in 0..=17 {
+        for slots in 0..=260 {
+            of_size(comparison, random, Size { block_size, slots, ..PLAIN });
+        }
+    }
+    for block_size in BLOCK_SIZES {
+        for slots in SLOTS {
+            of_size(comparison, random, Size { block_size, slots, ..PLAIN });
+        }
+    }
+    for endpoints in (0..=260).chain(ENDPOINTS) {
+        of_size(comparison, random, Size { endpoints, ..PLAIN });
+    }
+    for links in LINKS {
+        for serving in LINKS {
+            of_size(comparison, random, Size { links, serving, ..PLAIN });
+        }
+    }
+    for _ in 0..count.div_ceil(8) {
+        let size = limit_sizes(random);
+        of_size(comparison, random, size);
+    }
+}
+
+const BLOCK_SIZES: [usize; 9] =
+    [1, 4, 8, 16, 16 + 4, 256 + 4, 65_536 + 4, 1 << 31 | 4, u32::MAX as usize];
+const SLOTS: [usize; 13] = [0, 1, 4, 60, 61, 64, 240, 241, 244, 248, 256 + 240, 65_536 + 240, VERY_LONG];
+const ENDPOINTS: [usize; 6] = [0, 200, 201, 256 + 200, 65_536 + 200, VERY_LONG];
+const LINKS: [usize; 9] =
+    [0, 1, MAX_LINKS - 1, MAX_LINKS, MAX_LINKS + 1, 4095, 4096 + 6, 65_536 + 6, VERY_LONG];
+
+fn limit_sizes(random: &mut Random) -> Size {
+    let mut some = |usual: usize, others: &[usize]| match random.once_in(3) {
+        true => *random.pick(others),
+        false => usual,
+    };
+    Size {
+        block_size: some(4, &BLOCK_SIZES),
+        slots: some(240, &SLOTS),
+        endpoints: some(200, &ENDPOINTS),
+        links: some(MAX_LINKS, &LINKS),
+        serving: some(MAX_LINKS, &LINKS),
+    }
+}
+
+/// A column of a list.
+#[derive(Clone, Copy)]
+enum Column {
+    States,
+    Near,
+    Weights,
+    Protected,
+}
+
+const COLUMNS: [Column; 4] = [Column::States, Column::Near, Column::Weights, Column::Protected];
+
+fn length_of(lists: &Lists, column: Column) -> usize {
+    match column {
+        Column::States | Column::Near => lists.states.len(),
+        Column::Weights | Column::Protected => lists.weights.len(),
+    }
+}
+
+fn set_length(lists: &mut Lists, column: Column, length: usize) {
+    match column {
+        Column::States => lists.states.resize(length, 0),
+        Column::Near => lists.near.resize(length, true),
+        Column::Weights => lists.weights.resize(length, 1),
+        Column::Protected => lists.protected.resize(length, true),
+    }
+}
+
+/// One column of a list shorter or longer than the other, alone and with other faults.
+pub fn unequal_columns(comparison: &mut Comparison, random: &mut Random, _: usize) {
+    for sample in samples::small().into_iter().chain([samples::longest()]) {
+        let right = lists_of(&sample);
+        for column in COLUMNS {
+            let length = length_of(&right, column);
+            let half = length / 2;
+            let longer = [1, 2, 256, 65_536].map(|more| length + more);
+            for length in [0, half, length.saturating_sub(1), VERY_LONG].into_iter().chain(longer) {
+                let mut lists = right.clone();
+                set_length(&mut lists, column, length);
+                two_buffers(comparison, random, &lists);
+                add_faults(random, &mut lists, 2);
+                two_buffers(comparison, random, &lists);
+            }
+        }
+    }
+}
+
+/// Each kind of fault once in so many times.
+fn add_faults(random: &mut Random, lists: &mut Lists, of: usize) {
+    for fault in FAULTS.into_iter().chain([too_many as Fault]) {
+        if random.once_in(of) {
+            fault(random, lists);
+        }
+    }
+}
+
+/// More endpoints, links or serving links than there may be.
+fn too_many(random: &mut Random, lists: &mut Lists) {
+    match random.below(16) {
+        0 => lists.links.resize(MAX_LINKS + 1, [0, 1]),
+        1 => lists.serving.resize(MAX_LINKS + 1, [0, 1]),
+        2 => {
+            lists.weights.resize(201, 1);
+            lists.protected.resize(201, true);
+        }
+        _ => {}
+    }
+}
+
+/// Every row of a short list, the first, middle and last of a long one.
+fn rows_to_try(count: usize) -> Vec<usize> {
+    match count {
+        0..=100 => (0..count).collect(),
+        _ => vec![0, count / 2, count - 1],
+    }
+}
+
+fn exact_buffer(comparison: &mut Comparison, random: &mut Random, lists: &Lists) {
+    comparison.write(lists, &mut old_bytes(random, due(lists)));
+}
+
+/// Every state, at the ends of links the numbers around the limits and those whose low bits are
+/// right, and every number of 16 bits somewhere in case A.
+pub fn values(comparison: &mut Comparison, random: &mut Random, _: usize) {
+    for sample in samples::small().into_iter().chain([samples::longest()]) {
+        let right = lists_of(&sample);
+        for row in rows_to_try(right.states.len()) {
+            let mut lists = right.clone();
+            for state in 0..=255 {
+                lists.states[row] = state;
+                exact_buffer(comparison, random, &lists);
+            }
+        }
+        each_end(comparison, random, &right, |lists| &mut lists.links);
+        each_end(comparison, random, &right, |lists| &mut lists.serving);
+    }
+    for value in 0..=u16::MAX {
+        let mut lists = lists_of(&samples::case_a());
+        let links = match random.once_in(2) {
+            true => &mut lists.links,
+            false => &mut lists.serving,
+        };
+        links[random.below(3)][random.below(2)] = value;
+        exact_buffer(comparison, random, &lists);
+    }
+}
+
+type Links = fn(&mut Lists) -> &mut Vec<[u16; 2]>;
+
+fn each_end(comparison: &mut Comparison, random: &mut Random, right: &Lists, links: Links) {
+    let mut lists = right.clone();
+    let count = links(&mut lists).len();
+    for row in rows_to_try(count) {
+        for end in 0..2 {
+            let old = links(&mut lists)[row][end];
+            for value in ends(right) {
+                links(&mut lists)[row][end] = value;
+                exact_buffer(comparison, random, &lists);
+            }
+            links(&mut lists)[row][end] = old;
+        }
+    }
+}
+
+fn ends(lists: &Lists) -> [u16; 14] {
+    let (slots, endpoints) = (lists.states.len() as u16, lists.weights.len() as u16);
+    [
+        0,
+        1,
+        slots,
+        slots + 1,
+        endpoints,
+        endpoints + 1,
+        255,
+        256,
+        256 + 1,
+        256 + slots,
+        256 + endpoints,
+        1 << 12 | 1,
+        0xFF00 | 1,
+        u16::MAX,
+    ]
+}
+
+/// Networks with some faults at once, so that their order shows.
+pub fn damaged(comparison: &mut Comparison, random: &mut Random, count: usize) {
+    for round in 0..2 * count {
+        let right = lists_of(&any_network(random, round));
+        for of in [2, 4, 8] {
+            let mut lists = right.clone();
+            add_faults(random, &mut lists, of);
+            two_buffers(comparison, random, &lists);
+        }
+    }
+}
+
+/// Accepted pictures, read and written: each must come back as its own bytes.
+pub fn there_and_back(comparison: &mut Comparison, random: &mut Random, count: usize) {
+    for (_, picture) in samples::files() {
+        comes_back(comparison, random, &picture);
+    }
+    for round in 0..count {
+        let picture = pack(&any_network(random, round));
+        comes_back(comparison, random, &picture);
+        let raw = Raw::to(any_header(random), random);
+        comes_back(comparison, random, &raw.bytes());
+    }
+}
+
+fn comes_back(comparison: &mut Comparison, random: &mut Random, picture: &[u8]) {
+    if let Ok(read) = read(picture) {
+        let written = must_be_written(comparison, random, &lists_of(&read));
+        comparison.expect("its own bytes again (1) or not (0)", (written == picture).into(), 1);
+    }
+}
+
+/// Sizes of chance, which most of the time are a picture's.
+fn any_header(random: &mut Random) -> Header {
+    let block_size = random.between(1, 8) as u32;
+    Header {
+        edition: 1,
+        block_size,
+        slots: block_size * random.between(1, 30) as u32,
+        near_limit: random.byte().into(),
+        endpoints: random.between(1, 20) as u32,
+        links: random.below(40) as u32,
+        serving: random.below(40) as u32,
+    }
+}
