@@ -8,7 +8,8 @@ use native.Mathlib.Omega.{arith}
 use native.Mathlib.Decide.{decLt}
 use borrow.Author.Tests.{le-leb, lt-leb}
 use Rattle.lists.specs.Lists.{on, first, outcome}
-use Rattle.lists.proofs.Faults.{stop-at, skip-at}
+use Rattle.lists.proofs.Answers.{answer-refused, answer-numbers, answer-refusals}
+use Rattle.lists.proofs.Faults.{stop-at, skip-at, first-one}
 use Rattle.picture.specs.Picture.{pictureOf}
 use Rattle.picture.specs.Faults.{pictureFault}
 use Rattle.network.specs.Words.{blockCount}
@@ -19,19 +20,6 @@ use Rattle.acts.specs.declared.Acting.the-variants.{Done, Refused}
 use Rattle.acts.proofs.Judged.{done-bytes as done-writes, refused-bytes as refused-stays}
 use Rattle.acts.specs.Faults.{changes, cutFault, nearFault, actFault, actBytes, actingOf, acting}
 use Rattle.acts.specs.Acts.{doneBytes, actingNumbers}
-
--- the last number of the list is what is told
-last-at : {z y : ℕ} → z ≡ y → z ≡ first (y ∷ [])
-last-at {z} {y} e = e ∙ go y
-  where
-    go : (y : ℕ) → y ≡ first (y ∷ [])
-    go zero = unfold first in refl
-    go (suc k) = unfold first in refl
-
-told-refused : (k : ℕ) → k ≢ 0 → Refused k ≡ actingOf k
-unfolding actingOf
-told-refused zero n = absurd (n refl)
-told-refused (suc k) n = refl
 
 module _ (a : Act) (bs : List ℕ) (b : ℕ) where
   -- ---- the order: picture, 8, 11, 10, 12
@@ -64,14 +52,14 @@ module _ (a : Act) (bs : List ℕ) (b : ℕ) where
       cuts x n e = past-change (stop-at _ n e)
 
       pub cuts-none : (x y : ℕ) → x ≡ 0 → x ≡ cutFault a (pictureOf bs) b → y ≡ nearFault a (pictureOf bs) b → y ≡ actFault a bs b
-      cuts-none x y o e f = past-change (skip-at _ o e (last-at f))
+      cuts-none x y o e f = past-change (skip-at _ o e (f ∙ first-one _))
 
   -- ---- the answer and the bytes
 
   -- any fault: the answer has its number, and the bytes stay
   pub refused-answer : (k : ℕ) → k ≢ 0 → k ≡ actFault a bs b → Refused k ≡ acting a bs b
-  unfolding acting
-  refused-answer k n e = told-refused k n ∙ ap actingOf e
+  unfolding acting actingOf
+  refused-answer = answer-refused actingOf Refused (λ _. refl)
 
   pub refused-bytes : (k : ℕ) → k ≢ 0 → k ≡ actFault a bs b → bs ≡ actBytes a bs b
   refused-bytes k n e = sym (refused-stays a bs b (λ z. n (e ∙ z)))
@@ -94,21 +82,13 @@ module _ (a : Act) (bs : List ℕ) (b : ℕ) where
 -- ---- the numbers of the answer
 
 pub acting-numbers : (a : Act) (bs : List ℕ) (b : ℕ) → actingNumbers (acting a bs b) ≡ outcome (actFault a bs b) []
-unfolding actingNumbers acting actingOf outcome
-acting-numbers a bs b = go (actFault a bs b)
-  where
-    go : (k : ℕ) → actingNumbers (actingOf k) ≡ outcome k []
-    go zero = refl
-    go (suc k) = refl
+unfolding actingNumbers acting actingOf
+acting-numbers a bs b = answer-numbers actingOf Refused (λ _. refl) actingNumbers [] refl (λ _. refl) (actFault a bs b)
 
 -- no refusal has the number 0
 acting-refused : (a : Act) (bs : List ℕ) (b : ℕ) → acting a bs b ≢ Refused 0
 unfolding acting actingOf
-acting-refused a bs b = go (actFault a bs b)
-  where
-    go : (k : ℕ) → actingOf k ≢ Refused 0
-    go zero e = let z : _≡_ {A = ℕ} 0 1 = cc in omega arith
-    go (suc k) e = let z : suc k ≡ 0 = cc in omega arith
+acting-refused a bs b = answer-refusals actingOf Refused (λ _. refl) (λ e. let z : _≡_ {A = ℕ} 0 1 = cc in omega arith) (λ k e. cc) (actFault a bs b)
 
 -- what a contract says of an answer: the case, its number, and that it is no refusal with 0; then the bytes
 pub answered : (a : Act) (bs : List ℕ) (b : ℕ) (r : Acting) {bytes : Type 0} → r ≡ acting a bs b → bytes

@@ -8,6 +8,7 @@ use native.Mathlib.Omega.{arith}
 use lib.Dec.{eqb}
 use lib.ListN.{length, getD}
 use Rattle.lists.specs.Lists.{range, on, first, outcome}
+use Rattle.lists.proofs.Answers.{answer-refused, answer-numbers, answer-refusals}
 use Rattle.lists.proofs.Ranges.{length-range, map-shift, range-made}
 use Rattle.lists.proofs.Faults.{on-zero, first-zero, first-in, stop-at, first-map-none}
 use Rattle.picture.specs.Layout.{edition1}
@@ -98,20 +99,12 @@ module _ (bs ev : List ℕ) where
 module _ (bs ev : List ℕ) where
   -- its numbers, and that no refusal is numbered 0
   pub checking-numbers : checkingNumbers (checking bs ev) ≡ outcome (checkFault bs ev) []
-  unfolding checkingNumbers checking checkingOf outcome
-  checking-numbers = go (checkFault bs ev)
-    where
-      go : (k : ℕ) → checkingNumbers (checkingOf k) ≡ outcome k []
-      go zero = refl
-      go (suc k) = refl
+  unfolding checkingNumbers checking checkingOf
+  checking-numbers = answer-numbers checkingOf Refused (λ _. refl) checkingNumbers [] refl (λ _. refl) (checkFault bs ev)
 
   checking-refusals : checking bs ev ≢ Refused 0
   unfolding checking checkingOf
-  checking-refusals = go (checkFault bs ev)
-    where
-      go : (k : ℕ) → checkingOf k ≢ Refused 0
-      go zero e = let z : _≡_ {A = ℕ} 0 1 = cc in omega arith
-      go (suc k) e = let z : suc k ≡ 0 = cc in omega arith
+  checking-refusals = answer-refusals checkingOf Refused (λ _. refl) (λ e. let z : _≡_ {A = ℕ} 0 1 = cc in omega arith) (λ k e. cc) (checkFault bs ev)
 
   -- what check ensures of its answer
   abbrev Told : Checking → Type 0
@@ -126,5 +119,4 @@ module _ (bs ev : List ℕ) where
 
   pub told-refused : (k : ℕ) → k ≢ 0 → k ≡ checkFault bs ev → Told (Refused k)
   unfolding checking checkingOf
-  told-refused zero n e = absurd (n refl)
-  told-refused (suc k) n e = told (ap checkingOf e)
+  told-refused k n e = told (answer-refused checkingOf Refused (λ _. refl) k n e)

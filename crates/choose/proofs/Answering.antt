@@ -7,6 +7,7 @@ use native.Mathlib.Omega.{arith}
 use borrow.Author.Tests.{ne-eqb, lt-ltb}
 use lib.ListN.{length, drop}
 use Rattle.lists.specs.Lists.{on, first, outcome}
+use Rattle.lists.proofs.Answers.{answer-refused, answer-numbers}
 use Rattle.lists.proofs.Faults.{stop-at}
 use Rattle.picture.specs.Faults.{pictureFault}
 use Rattle.evidence.specs.Canonical.{evidenceOf}
@@ -16,16 +17,6 @@ use Rattle.choose.specs.declared.Choosing.{Choosing}
 use Rattle.choose.specs.declared.Choosing.the-variants.{Length, Refused}
 use Rattle.choose.specs.Answers.{choosingOf, choosing, choosingNumbers}
 
-told-refused : (k n : ℕ) → k ≢ 0 → Refused k ≡ choosingOf k n
-unfolding choosingOf
-told-refused zero n z = absurd (z refl)
-told-refused (suc k) n z = refl
-
-told-numbers : (k n : ℕ) → choosingNumbers (choosingOf k n) ≡ outcome k (n ∷ [])
-unfolding choosingNumbers choosingOf outcome
-told-numbers zero n = refl
-told-numbers (suc k) n = refl
-
 module _ (bs buf : List ℕ) where
   -- what `choose` ensures of an answer and of the buffer at exit
   abbrev Told : Choosing → List ℕ → Type 0
@@ -33,17 +24,17 @@ module _ (bs buf : List ℕ) where
 
   -- the answer has its numbers
   pub choosing-numbers : choosingNumbers (choosing bs buf) ≡ outcome (chooseFault bs buf) (lengthFor bs ∷ [])
-  unfolding choosing
-  choosing-numbers = told-numbers (chooseFault bs buf) (lengthFor bs)
+  unfolding choosing choosingOf choosingNumbers
+  choosing-numbers = answer-numbers (λ (j : ℕ). choosingOf j (lengthFor bs)) Refused (λ _. refl) choosingNumbers (lengthFor bs ∷ []) refl (λ _. refl) (chooseFault bs buf)
 
   told : {r : Choosing} {out : List ℕ} → r ≡ choosing bs buf → out ≡ chosenBytes bs buf → Told r out
   told e w = (e, (ap choosingNumbers e ∙ choosing-numbers, w))
 
   -- a refusal tells its number and leaves the buffer
   refused : {k : ℕ} → k ≢ 0 → k ≡ chooseFault bs buf → Told (Refused k) buf
-  unfolding choosing chosenBytes
+  unfolding choosing choosingOf chosenBytes
   refused {k} n e =
-      told (told-refused k (lengthFor bs) n ∙ ap (λ (j : ℕ). choosingOf j (lengthFor bs)) e) (rw (ne-eqb (chooseFault bs buf) 0 (λ z. n (e ∙ z))))
+      told (answer-refused (λ (j : ℕ). choosingOf j (lengthFor bs)) Refused (λ _. refl) k n e) (rw (ne-eqb (chooseFault bs buf) 0 (λ z. n (e ∙ z))))
 
   -- the picture has a fault
   pub choose-faulty : {k : ℕ} → (pictureFault bs ≡ k) × (k ≢ 0) → Told (Refused k) buf

@@ -5,6 +5,7 @@ pub mod Searches
 pub mod Filters
 pub mod Marks
 pub mod Faults
+pub mod Answers
 pub mod Rules
 pub mod Sums
 pub mod Prefixes

@@ -5,6 +5,7 @@ use mathlib.Core.List.{List}
 use Prim.Native.Nat.{ℕ, zero, suc}
 use native.Mathlib.Omega.{arith}
 use Rattle.lists.specs.Lists.{outcome}
+use Rattle.lists.proofs.Answers.{answer-refused, answer-numbers}
 use Rattle.picture.specs.declared.Header.{Header}
 use Rattle.picture.specs.declared.Reading.{Reading}
 use Rattle.picture.specs.declared.Reading.the-variants.{Accepted, Refused}
@@ -21,8 +22,7 @@ told-accepted h e = rw e
 
 pub told-refused : (k : ℕ) (h : Header) → k ≢ 0 → Refused k ≡ readingOf k h
 unfolding readingOf
-told-refused zero h n = absurd (n refl)
-told-refused (suc k) h n = refl
+told-refused k h n = answer-refused (λ (j : ℕ). readingOf j h) Refused (λ _. refl) k n refl
 
 -- ---- from the answer to the number
 
@@ -46,12 +46,8 @@ refused-fault bs k e = go (pictureFault bs) refl e
 -- ---- the numbers of the answer
 
 pub reading-numbers : (bs : List ℕ) → readingNumbers (reading bs) ≡ outcome (pictureFault bs) (headerValues (headerOf bs))
-unfolding readingNumbers reading readingOf outcome
-reading-numbers bs = go (pictureFault bs)
-  where
-    go : (k : ℕ) → readingNumbers (readingOf k (headerOf bs)) ≡ outcome k (headerValues (headerOf bs))
-    go zero = refl
-    go (suc k) = refl
+unfolding readingNumbers reading readingOf
+reading-numbers bs = answer-numbers (λ (j : ℕ). readingOf j (headerOf bs)) Refused (λ _. refl) readingNumbers (headerValues (headerOf bs)) refl (λ _. refl) (pictureFault bs)
 
 -- so that an answer that is the reading has its numbers: what `read` ensures
 pub told : {r : Reading} (bs : List ℕ) → r ≡ reading bs → (r ≡ reading bs) × (readingNumbers r ≡ outcome (pictureFault bs) (headerValues (headerOf bs)))

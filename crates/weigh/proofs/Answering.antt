@@ -6,6 +6,7 @@ use Prim.Native.Nat.{ℕ, zero, suc, _≤_, _<_}
 use native.Mathlib.Omega.{arith}
 use borrow.Author.Tests.{le-leb, lt-leb}
 use Rattle.lists.specs.Lists.{on, outcome}
+use Rattle.lists.proofs.Answers.{answer-refused, answer-numbers}
 use Rattle.lists.proofs.Faults.{stop-at, skip-at, end-at}
 use Rattle.picture.specs.Picture.{pictureOf}
 use Rattle.picture.specs.Faults.{pictureFault}
@@ -15,15 +16,10 @@ use Rattle.weigh.specs.declared.Weighing.{Weighing}
 use Rattle.weigh.specs.declared.Weighing.the-variants.{Weighed, Refused}
 use Rattle.weigh.specs.Weighing.{blockFault, weighFault, weightsOf, weighingOf, weighing, weightValues, weighingNumbers}
 
-told-refused : (k : ℕ) (w : Weights) → k ≢ 0 → Refused k ≡ weighingOf k w
-unfolding weighingOf
-told-refused zero w n = absurd (n refl)
-told-refused (suc k) w n = refl
-
 module _ (bs : List ℕ) (b : ℕ) where
   refused : (k : ℕ) → k ≢ 0 → k ≡ weighFault bs b → Refused k ≡ weighing bs b
-  unfolding weighing
-  refused k n e = told-refused k (weightsOf (pictureOf bs) b) n ∙ ap (λ (j : ℕ). weighingOf j (weightsOf (pictureOf bs) b)) e
+  unfolding weighing weighingOf
+  refused = answer-refused (λ (j : ℕ). weighingOf j (weightsOf (pictureOf bs) b)) Refused (λ _. refl)
 
   -- the picture has a fault
   pub weigh-faulty : (k : ℕ) → k ≢ 0 → pictureFault bs ≡ k → Refused k ≡ weighing bs b
@@ -47,12 +43,10 @@ module _ (bs : List ℕ) (b : ℕ) where
 -- ---- the numbers of the answer
 
 pub weighing-numbers : (bs : List ℕ) (b : ℕ) → weighingNumbers (weighing bs b) ≡ outcome (weighFault bs b) (weightValues (weightsOf (pictureOf bs) b))
-unfolding weighingNumbers weighing weighingOf outcome
-weighing-numbers bs b = go (weighFault bs b)
-  where
-    go : (k : ℕ) → weighingNumbers (weighingOf k (weightsOf (pictureOf bs) b)) ≡ outcome k (weightValues (weightsOf (pictureOf bs) b))
-    go zero = refl
-    go (suc k) = refl
+unfolding weighingNumbers weighing weighingOf
+weighing-numbers bs b =
+    let w : Weights = weightsOf (pictureOf bs) b in
+    answer-numbers (λ (j : ℕ). weighingOf j w) Refused (λ _. refl) weighingNumbers (weightValues w) refl (λ _. refl) (weighFault bs b)
 
 -- an answer that is the one of the specification has its numbers
 pub answered : (bs : List ℕ) (b : ℕ) (r : Weighing) → r ≡ weighing bs b

@@ -7,6 +7,7 @@ use native.Mathlib.Omega.{arith}
 use borrow.Author.Tests.{ne-eqb, lt-ltb}
 use lib.ListN.{length}
 use Rattle.lists.specs.Lists.{first, outcome}
+use Rattle.lists.proofs.Answers.{answer-refused, answer-numbers}
 use Rattle.lists.proofs.Faults.{first-skip, stop-at, first-in}
 use Rattle.picture.proofs.Finding.{tells}
 use Rattle.write.specs.declared.Writing.{Writing}
@@ -18,25 +19,18 @@ use Rattle.write.specs.Answers.{writingOf, writing, writingNumbers, writ
 use Rattle.write.specs.Inner.{Right, Written}
 use Rattle.write.proofs.Judged.{right-write}
 
-told-refused : (k n : ℕ) → k ≢ 0 → Refused k ≡ writingOf k n
-unfolding writingOf
-told-refused zero n z = absurd (z refl)
-told-refused (suc k) n z = refl
-
-told-numbers : (k n : ℕ) → writingNumbers (writingOf k n) ≡ outcome k (n ∷ [])
-unfolding writingNumbers writingOf outcome
-told-numbers zero n = refl
-told-numbers (suc k) n = refl
-
 module _ (l : Lists) (buf : List ℕ) where
   told : {r : Writing} {out : List ℕ} → r ≡ writing l buf → out ≡ writtenBytes l buf → Writes l buf r out
-  unfolding writing
-  told e w = record { answer = e; numbers = ap writingNumbers e ∙ told-numbers (writeFault l buf) (sizeFor l); bytes = w }
+  unfolding writing writingOf writingNumbers
+  told e w =
+      let numbers = answer-numbers (λ (j : ℕ). writingOf j (sizeFor l)) Refused (λ _. refl) writingNumbers (sizeFor l ∷ []) refl (λ _. refl) (writeFault l buf) in
+      record { answer = e; numbers = ap writingNumbers e ∙ numbers; bytes = w }
 
   -- a refusal tells its number and leaves the buffer
   refused : {k : ℕ} → k ≢ 0 → k ≡ writeFault l buf → Writes l buf (Refused k) buf
-  unfolding writing writtenBytes
-  refused {k} n e = told (told-refused k (sizeFor l) n ∙ ap (λ (j : ℕ). writingOf j (sizeFor l)) e) (rw (ne-eqb (writeFault l buf) 0 (λ z. n (e ∙ z))))
+  unfolding writing writingOf writtenBytes
+  refused {k} n e =
+      told (answer-refused (λ (j : ℕ). writingOf j (sizeFor l)) Refused (λ _. refl) k n e) (rw (ne-eqb (writeFault l buf) 0 (λ z. n (e ∙ z))))
 
   -- the lists have a fault
   pub write-faulty : {k : ℕ} → k ≢ 0 → k ≡ first (handedFaults l) → Writes l buf (Refused k) buf

@@ -57,7 +57,7 @@ shr-put-in-byte c = search needs
 put-in-byte-requires : tie.Need-put-in-byte-requires Inv-loop μ-loop
 put-in-byte-requires c κs =
     let k = chunk (c .before .before) in
-    (omega (arith, k, kept (c .before .before .before .before)), k .inside)
+    (omega (arith, k, kept (c .before .before .before .before)), omega (arith, k))
 
 add-done : tie.Need-add-done Inv-loop μ-loop
 add-done c = omega (arith, chunk (c .before .before .before .before .before))
