@@ -3,7 +3,7 @@ use mathlib.Core.Path.{_≡_, refl, sym, ap, _∙_}
 use mathlib.Core.Bool.{Bool, true, false, not}
 use mathlib.Core.Logic.{_≢_, by-cases}
 use mathlib.Core.List.{List, [], _∷_}
-use Prim.Native.Nat.{ℕ, zero, suc, _≤_, _<_}
+use Prim.Native.Nat.{ℕ, _≤_, _<_}
 use native.Mathlib.Omega.{arith}
 use native.Mathlib.Decide.{decLt}
 use borrow.Author.Tests.{le-leb, lt-leb}
@@ -18,8 +18,9 @@ use Rattle.acts.specs.declared.Act.{Act}
 use Rattle.acts.specs.declared.Acting.{Acting}
 use Rattle.acts.specs.declared.Acting.the-variants.{Done, Refused}
 use Rattle.acts.proofs.Judged.{done-bytes as done-writes, refused-bytes as refused-stays}
-use Rattle.acts.specs.Faults.{changes, cutFault, nearFault, actFault, actBytes, actingOf, acting}
-use Rattle.acts.specs.Acts.{doneBytes, actingNumbers}
+use Rattle.acts.specs.Faults.{changes, cutFault, nearFault, actFault}
+use Rattle.acts.specs.Answers.{actBytes, actingOf, acting, actingNumbers}
+use Rattle.acts.specs.Acts.{doneBytes}
 
 module _ (a : Act) (bs : List ℕ) (b : ℕ) where
   -- ---- the order: picture, 8, 11, 10, 12

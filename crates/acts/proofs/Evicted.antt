@@ -10,9 +10,9 @@ use lib.Dec.{eqb}
 use Rattle.graph.specs.Rounds.{reachedIn}
 use Rattle.picture.specs.Picture.{Picture, Slot, pictureOf, slotOf, endpointOf}
 use Rattle.picture.specs.Faults.{pictureFault}
-use Rattle.network.specs.Words.{slotCount, endpointCount, blockCount, inBlock, isHeld, heldWithout, joins, weightOf}
+use Rattle.network.specs.Words.{slotCount, endpointCount, blockCount, inBlock, isHeld, heldWithout, joins, weightOf, Named}
 use Rattle.network.specs.Tests.{marks, served, weightWhere, servedWeight, weighed}
-use Rattle.network.proofs.Named.{Named, accepted-named}
+use Rattle.network.proofs.Named.{accepted-named}
 use Rattle.network.proofs.Evicting.{loss-off}
 use Rattle.acts.specs.declared.Act.{Act}
 use Rattle.acts.specs.declared.Act.the-variants.{Evict, Free}

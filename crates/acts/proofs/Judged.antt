@@ -17,15 +17,16 @@ use Rattle.picture.specs.Picture.{Picture, pictureOf, slotOf}
 use Rattle.picture.specs.Faults.{pictureFault}
 use Rattle.picture.specs.Rules.{rules}
 use Rattle.picture.proofs.Accepted.{judged as picture-judged, numbered}
-use Rattle.network.specs.Words.{slotCount, blockCount, inBlock, Admissible}
+use Rattle.network.specs.Words.{slotCount, blockCount, inBlock, Admissible, Named}
 use Rattle.network.specs.Tests.{weighed}
-use Rattle.network.proofs.Named.{Named, accepted-named}
+use Rattle.network.proofs.Named.{accepted-named}
 use Rattle.network.proofs.Candidates.{near-slot}
 use Rattle.network.proofs.Weights.{mark-protected, protected-mark}
 use Rattle.weigh.specs.Weighing.{blockFault}
 use Rattle.acts.specs.declared.Act.{Act}
 use Rattle.acts.specs.declared.Act.the-variants.{Evict, Reload, Free}
-use Rattle.acts.specs.Faults.{changes, cutFault, nearFault, actFault, actBytes}
+use Rattle.acts.specs.Faults.{changes, cutFault, nearFault, actFault}
+use Rattle.acts.specs.Answers.{actBytes}
 use Rattle.acts.specs.Acts.{after, blockSlots, recoverableNear, nearAfter, doneBytes}
 use Rattle.acts.specs.Rules.{Changes, Spares, Crowds, Leaves, actRules}
 use Rattle.acts.proofs.Slots.{in-block, block-in}

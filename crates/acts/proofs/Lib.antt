@@ -9,3 +9,4 @@ pub mod Choosable
 pub mod Headers
 pub mod Putting
 pub mod Answering
+pub mod Repeats

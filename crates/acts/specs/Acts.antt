@@ -12,8 +12,6 @@ use Rattle.network.specs.Words.{slotCount, inBlock}
 use Rattle.network.specs.Tests.{isNearHeld}
 use Rattle.acts.specs.declared.Act.{Act}
 use Rattle.acts.specs.declared.Act.the-variants.{Evict, Reload, Free}
-use Rattle.acts.specs.declared.Acting.{Acting}
-use Rattle.acts.specs.declared.Acting.the-variants.{Done, Refused}
 
 -- a slot's state after an act on its block: "Evict turns b's held slots into recoverable ones", "Reload turns b's recoverable slots into
 -- held ones. Free turns held and recoverable ones into freed ones; freed stays freed"
@@ -72,8 +70,3 @@ actOn a p b =
       links = p .links;
       serviceLinks = p .serviceLinks;
     }
-
--- 01's number for each case
-unfoldable pub actingNumbers : Acting → List ℕ
-actingNumbers Done = 0 ∷ []
-actingNumbers (Refused k) = k ∷ []

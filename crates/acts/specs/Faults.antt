@@ -1,7 +1,7 @@
--- The number of an act's first fault, and what the act answers and leaves by it. Assumes nothing.
-use mathlib.Core.Bool.{Bool, not, _&&_, cond}
+-- The number of an act's first fault. Assumes nothing.
+use mathlib.Core.Bool.{Bool, not, _&&_}
 use mathlib.Core.List.{List, [], _∷_}
-use Prim.Native.Nat.{ℕ, zero, suc}
+use Prim.Native.Nat.{ℕ}
 use lib.Dec.{eqb, ltb}
 use Rattle.lists.specs.Lists.{range, on, first, any}
 use Rattle.picture.specs.Picture.{Picture, pictureOf, slotOf}
@@ -11,9 +11,7 @@ use Rattle.network.specs.Tests.{weighed}
 use Rattle.weigh.specs.Weighing.{blockFault}
 use Rattle.acts.specs.declared.Act.{Act}
 use Rattle.acts.specs.declared.Act.the-variants.{Evict, Reload, Free}
-use Rattle.acts.specs.declared.Acting.{Acting}
-use Rattle.acts.specs.declared.Acting.the-variants.{Done, Refused}
-use Rattle.acts.specs.Acts.{after, blockSlots, recoverableNear, nearAfter, doneBytes}
+use Rattle.acts.specs.Acts.{after, blockSlots, recoverableNear, nearAfter}
 
 -- the act changes a slot: 11 where it does not
 unfoldable pub changes : Act → Picture → ℕ → Bool
@@ -36,18 +34,3 @@ unfoldable pub actFault : Act → List ℕ → ℕ → ℕ
 actFault a bs b =
     let p : Picture = pictureOf bs in
     first (pictureFault bs ∷ blockFault p b ∷ on (not (changes a p b)) 11 ∷ cutFault a p b ∷ nearFault a p b ∷ [])
-
--- the picture's bytes at exit; after a refusal all as they were
-unfoldable pub actBytes : Act → List ℕ → ℕ → List ℕ
-actBytes a bs b =
-    let done : List ℕ = doneBytes a bs b in
-    cond (eqb (actFault a bs b) 0) done bs
-
--- 0 is done; any other number is a refusal
-unfoldable pub actingOf : ℕ → Acting
-actingOf zero = Done
-actingOf (suc k) = Refused (suc k)
-
--- what an act on block b of any bytes answers
-unfoldable pub acting : Act → List ℕ → ℕ → Acting
-acting a bs b = actingOf (actFault a bs b)

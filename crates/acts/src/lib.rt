@@ -5,14 +5,14 @@ ghost use mathlib.Core.List.{[]};
 ghost use mathlib.Core.Logic.{_≢_};
 ghost use Prim.Native.Nat.{_≤_, _<_};
 ghost use lib.Dec.{eqb};
-ghost use Rattle.lists.specs.Lists.{range, on, any, outcome};
+ghost use Rattle.lists.specs.Lists.{range, any, outcome};
 ghost use Rattle.picture.specs.Picture.{pictureOf, slotOf};
 ghost use Rattle.picture.specs.Inner.{Read};
 ghost use Rattle.network.specs.Words.{slotCount, blockCount};
-ghost use Rattle.network.specs.Tests.{weighed};
 ghost use Rattle.network.specs.Tests.{isNearHeld};
-ghost use Rattle.acts.specs.Faults.{changes, cutFault, nearFault, actFault, actBytes, acting};
-ghost use Rattle.acts.specs.Acts.{after, recoverableNear, nearAfter, doneBytes, actingNumbers};
+ghost use Rattle.acts.specs.Faults.{changes, cutFault, nearFault, actFault};
+ghost use Rattle.acts.specs.Answers.{actBytes, acting, actingNumbers};
+ghost use Rattle.acts.specs.Acts.{after, recoverableNear, nearAfter, doneBytes};
 use picture::FREED;
 use picture::HELD;
 use picture::Header;
@@ -149,7 +149,7 @@ fn near_after(s: &[u8], h: Header, b: usize) -> usize
 // The fault of cutting a protected endpoint, or 0.
 fn block_cut_fault(s: &[u8], h: Header, b: usize) -> u8
     requires { ⌜ Read (now s) h × (b < blockCount (pictureOf (now s))) ⌝ }
-    ensures { λ r. ⌜ r ≡ on (eqb (weighed (pictureOf (now (s .entry))) b .mark) 1) 10 ⌝ }
+    ensures { λ r. ⌜ r ≡ cutFault Act.Evict (pictureOf (now (s .entry))) b ⌝ }
 {
     if weigh::weigh_block(s, h, b).mark == 1 {
         return PROTECTED;

@@ -22,10 +22,10 @@ use Rattle.picture.specs.Layout.{edition1, blocksMax, endpointsMax}
 use Rattle.picture.specs.Picture.{Picture, pictureOf}
 use Rattle.picture.specs.Inner.{Read}
 use Rattle.picture.proofs.Facts.{read-sizes}
-use Rattle.network.specs.Words.{slotCount, endpointCount, isHeld, joins}
+use Rattle.network.specs.Words.{slotCount, endpointCount, isHeld, joins, Named}
 use Rattle.network.specs.Tests.{marks, served, candidates}
 use Rattle.network.specs.Rows.{RowsOf, SlotRowsOf, EndpointsOf}
-use Rattle.network.proofs.Named.{Named, accepted-named}
+use Rattle.network.proofs.Named.{accepted-named}
 use Rattle.network.proofs.Candidates.{candidates-below}
 use Rattle.rows.proofs.Marks.{clear}
 use Rattle.weigh.specs.Sums.{Small, Meets, LostBetween}

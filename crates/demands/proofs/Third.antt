@@ -30,7 +30,8 @@ use Rattle.checker.specs.Answers.{checkingOf, checking, checkingNumbers}
 use Rattle.checker.proofs.Answering.{checking-numbers}
 use Rattle.acts.specs.declared.Act.the-variants.{Evict}
 use Rattle.acts.specs.declared.Acting.the-variants.{Done, Refused as Undone}
-use Rattle.acts.specs.Faults.{actFault, actBytes, actingOf, acting}
+use Rattle.acts.specs.Faults.{actFault}
+use Rattle.acts.specs.Answers.{actBytes, actingOf, acting}
 use Rattle.acts.specs.Acts.{doneBytes}
 use Rattle.acts.proofs.Acted.{acted-accepted}
 use Rattle.acts.proofs.Answering.{acting-numbers}

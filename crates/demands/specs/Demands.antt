@@ -16,8 +16,7 @@ use Rattle.checker.specs.declared.Checking.the-variants.{Refused as Unpassed}
 use Rattle.checker.specs.Answers.{checking, checkingNumbers}
 use Rattle.acts.specs.declared.Act.the-variants.{Evict}
 use Rattle.acts.specs.declared.Acting.the-variants.{Refused as Undone}
-use Rattle.acts.specs.Faults.{acting, actBytes}
-use Rattle.acts.specs.Acts.{actingNumbers}
+use Rattle.acts.specs.Answers.{acting, actBytes, actingNumbers}
 
 -- ---- what the calls answer
 

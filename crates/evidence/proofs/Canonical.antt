@@ -10,9 +10,9 @@ use Rattle.graph.proofs.Keeping.{forest-kept}
 use Rattle.picture.specs.Layout.{Edition}
 use Rattle.picture.specs.Picture.{Picture, pictureOf}
 use Rattle.picture.specs.Faults.{pictureFault}
-use Rattle.network.specs.Words.{slotCount, isHeld, heldWithout, joins}
+use Rattle.network.specs.Words.{slotCount, isHeld, heldWithout, joins, Named}
 use Rattle.network.specs.Tests.{candidates}
-use Rattle.network.proofs.Named.{Named, accepted-named}
+use Rattle.network.proofs.Named.{accepted-named}
 use Rattle.network.proofs.Weights.{mark-le}
 use Rattle.evidence.specs.Canonical.{choice, forestOf, evidenceOf}
 use Rattle.evidence.proofs.Fields.{choice-fits, length-evidence}

@@ -8,11 +8,10 @@ use native.Mathlib.Decide.{decLt, ℕ-discrete}
 use lib.ListN.{length, getD}
 use Rattle.lists.proofs.Sums.{total-one}
 use Rattle.picture.specs.Picture.{Picture}
-use Rattle.network.specs.Words.{blockCount, Candidate, CutsProtected, Admissible, Loss}
+use Rattle.network.specs.Words.{blockCount, Candidate, CutsProtected, Admissible, Loss, Named}
 use Rattle.network.specs.declared.Cost.{Cost}
 use Rattle.network.specs.Tests.{weighed, candidates}
 use Rattle.network.proofs.Candidates.{candidates-all, candidates-rise}
-use Rattle.network.proofs.Named.{Named}
 use Rattle.network.proofs.Weights.{loss-weight, weighed-block}
 use Rattle.evidence.specs.declared.Choice.{Choice}
 use Rattle.evidence.specs.Canonical.{noCost, least, weighings, choice}

@@ -15,10 +15,10 @@ use Rattle.lists.proofs.Rules.{right-then, judged-then}
 use Rattle.picture.specs.Layout.{Edition, editionOf}
 use Rattle.picture.specs.Picture.{Picture, pictureOf}
 use Rattle.picture.proofs.Accepted.{judged, numbered}
-use Rattle.network.specs.Words.{slotCount, isHeld}
+use Rattle.network.specs.Words.{slotCount, isHeld, Named}
 use Rattle.network.specs.declared.Cost.{Cost}
 use Rattle.network.specs.Tests.{weighed, servedWeight, candidates}
-use Rattle.network.proofs.Named.{Named, accepted-named}
+use Rattle.network.proofs.Named.{accepted-named}
 use Rattle.evidence.specs.Canonical.{weighings}
 use Rattle.evidence.specs.Contents.{headIn, sectionIn, firstForest}
 use Rattle.evidence.specs.Checks.{forestRight, formRight, sectionFault, verdictRight, checkFault}

@@ -14,10 +14,9 @@ use Rattle.lists.proofs.Tests.{and-T, T-and, eq-T, any-at, at-any}
 use Rattle.lists.proofs.Sums.{total-one}
 use Rattle.picture.specs.Layout.{Edition}
 use Rattle.picture.specs.Picture.{Picture}
-use Rattle.network.specs.Words.{slotCount, blockCount, isHeld, heldWithout, ServedWeight, Candidate}
+use Rattle.network.specs.Words.{slotCount, blockCount, isHeld, heldWithout, ServedWeight, Candidate, Named}
 use Rattle.network.specs.declared.Cost.{Cost}
 use Rattle.network.specs.Tests.{weighed, servedWeight, candidates}
-use Rattle.network.proofs.Named.{Named}
 use Rattle.network.proofs.Weights.{served-weight, loss-weight, mark-protected, protected-mark, mark-le}
 use Rattle.evidence.specs.Layout.{evidenceBytes}
 use Rattle.evidence.specs.declared.Choice.{Choice}

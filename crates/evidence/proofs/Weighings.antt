@@ -7,9 +7,8 @@ use native.Mathlib.Decide.{ℕ-discrete}
 use lib.ListN.{length, getD, length-map}
 use Rattle.lists.proofs.Picks.{map-at}
 use Rattle.picture.specs.Picture.{Picture}
-use Rattle.network.specs.Words.{blockCount, Candidate, CutsProtected, Admissible}
+use Rattle.network.specs.Words.{blockCount, Candidate, CutsProtected, Admissible, Named}
 use Rattle.network.specs.Tests.{weighed, candidates}
-use Rattle.network.proofs.Named.{Named}
 use Rattle.network.proofs.Weights.{mark-protected, protected-mark, mark-le}
 use Rattle.network.proofs.Candidates.{candidates-are, candidates-all}
 use Rattle.evidence.specs.Canonical.{noCost, weighings}

@@ -10,8 +10,8 @@ use Rattle.lists.specs.Lists.{range, on, first, sum, lowest, equal, item, all, 
 use Rattle.lists.proofs.Tests.{all-at, equal-same}
 use Rattle.picture.specs.Layout.{headerWidths, slotWidths, endpointWidths, linkWidths, serviceLinkWidths, fieldIn, slotsAt, endpointsAt, linksAt, serviceLinksAt, endAt, sizeOf}
 use Rattle.picture.specs.Picture.{headerIn, slotAt, endpointAt, linkAt, rows, pictureWith, headerOf, pictureOf, slotOf, endpointOf}
-use Rattle.picture.specs.Answers.{headerValues, readingNumbers}
-use Rattle.picture.specs.Faults.{sizesRight, countsRight, stateFault, linkFault, serviceLinkFault, listFaults, endRight, bodyFaults, faultsWith, pictureFault, readingOf, reading}
+use Rattle.picture.specs.Answers.{headerValues, readingNumbers, readingOf, reading}
+use Rattle.picture.specs.Faults.{sizesRight, countsRight, stateFault, linkFault, serviceLinkFault, listFaults, endRight, bodyFaults, faultsWith, pictureFault}
 use Rattle.graph.specs.Rounds.{further, within, reachedIn, levels, depthIn, reachedBy, nodeIn, forest}
 use Rattle.network.specs.Words.{slotCount, endpointCount, blockCount, inBlock, isHeld, heldWithout, joins, weightOf}
 use Rattle.network.specs.Tests.{marks, served, cut, weightWhere, servedWeight, weighed, isCandidate, candidates, isNearHeld}
@@ -25,8 +25,9 @@ use Rattle.evidence.specs.Checks.{isIn, nodeRight, linkRight, forestRight, form
 use Rattle.evidence.specs.Calls.{lengthFor, chooseFault, chosenBytes, shownPart, shown}
 use Rattle.choose.specs.Answers.{choosingOf, choosing, choosingNumbers}
 use Rattle.checker.specs.Answers.{checkingOf, checking, checkingNumbers}
-use Rattle.acts.specs.Faults.{changes, cutFault, nearFault, actFault, actBytes, actingOf, acting}
-use Rattle.acts.specs.Acts.{after, blockSlots, recoverableNear, nearAfter, stateAt, putStates, doneBytes, actingNumbers}
+use Rattle.acts.specs.Faults.{changes, cutFault, nearFault, actFault}
+use Rattle.acts.specs.Answers.{actBytes, actingOf, acting, actingNumbers}
+use Rattle.acts.specs.Acts.{after, blockSlots, recoverableNear, nearAfter, stateAt, putStates, doneBytes}
 use Rattle.write.specs.Columns.{handed, slotFrom, endpointFrom, linkFrom, pictureFrom, headerFor, pairOf, listsOf}
 use Rattle.write.specs.Fields.{headerFields, slotFields, endpointFields, linkFields, pictureFields, pictureBytes}
 use Rattle.write.specs.Rules.{sizeFor}

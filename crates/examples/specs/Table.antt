@@ -5,8 +5,7 @@ use mathlib.Core.List.{List, [], _∷_, _++_}
 use Prim.Native.Nat.{ℕ}
 use lib.ListN.{set, take, drop, replicate}
 use Rattle.picture.specs.Picture.{pictureOf}
-use Rattle.picture.specs.Faults.{reading}
-use Rattle.picture.specs.Answers.{readingNumbers}
+use Rattle.picture.specs.Answers.{reading, readingNumbers}
 use Rattle.weigh.specs.Weighing.{weighing, weighingNumbers}
 use Rattle.evidence.specs.Canonical.{evidenceOf}
 use Rattle.evidence.specs.Calls.{chosenBytes, shown}
@@ -14,8 +13,7 @@ use Rattle.choose.specs.Answers.{choosing, choosingNumbers}
 use Rattle.checker.specs.Answers.{checking, checkingNumbers}
 use Rattle.acts.specs.declared.Act.{Act}
 use Rattle.acts.specs.declared.Act.the-variants.{Evict, Reload, Free}
-use Rattle.acts.specs.Faults.{acting, actBytes}
-use Rattle.acts.specs.Acts.{actingNumbers}
+use Rattle.acts.specs.Answers.{acting, actBytes, actingNumbers}
 use Rattle.write.specs.Columns.{Lists, handed, listsOf}
 use Rattle.write.specs.Answers.{writing, writingNumbers, writtenBytes}
 use Rattle.listing.specs.Listing.{listing}

@@ -4,3 +4,4 @@ pub mod Decimals
 pub mod Lines
 pub mod ByEvidence
 pub mod Long
+pub mod Repeats

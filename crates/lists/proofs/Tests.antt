@@ -84,6 +84,16 @@ all-at f [] t i h d = absurd (not-suc-le-zero h)
 all-at f (x ∷ l) t zero h d = and-T (f x) (all f l) t .0
 all-at f (x ∷ l) t (suc i) h d = all-at f l (and-T (f x) (all f l) t .1) i (le-of-suc-le-suc h) d
 
+-- a test of all elements holds where no element fails it
+pub all-any : {A : Type 0} (f : A → Bool) (l : List A) → all f l ≡ not (any (λ x. not (f x)) l)
+unfolding all any
+all-any f [] = refl
+all-any f (x ∷ l) = go (f x) (all-any f l)
+  where
+    go : (b : Bool) → all f l ≡ not (any (λ x. not (f x)) l) → (b && all f l) ≡ not (not b || any (λ x. not (f x)) l)
+    go true e = e
+    go false e = refl
+
 -- a test of any element holds at some place
 pub record Somewhere {A : Type 0} (d : A) (f : A → Bool) (l : List A) : Type 0 where
   pub at : ℕ

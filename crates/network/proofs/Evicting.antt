@@ -7,9 +7,8 @@ use Rattle.lists.proofs.Tests.{and-T}
 use Rattle.graph.specs.Chains.{Chain}
 use Rattle.graph.specs.Chains.Chain.{origin, step}
 use Rattle.picture.specs.Picture.{Picture}
-use Rattle.network.specs.Words.{inBlock, isHeld, heldWithout, Served}
+use Rattle.network.specs.Words.{inBlock, isHeld, heldWithout, Served, Named}
 use Rattle.network.specs.Tests.{marks, served, cut, weightWhere, servedWeight, weighed}
-use Rattle.network.proofs.Named.{Named}
 use Rattle.network.proofs.Service.{marked-served, served-marked}
 use Rattle.network.proofs.Weights.{where-split}
 

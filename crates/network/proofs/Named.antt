@@ -2,19 +2,19 @@
 use mathlib.Core.Path.{_≡_}
 use mathlib.Core.Bool.{_&&_}
 use mathlib.Core.List.{List}
-use Prim.Native.Nat.{ℕ, _≤_, _<_}
+use Prim.Native.Nat.{ℕ, _<_}
 use native.Mathlib.Omega.{arith}
 use lib.Dec.{T, eqb, eqb→eq}
 use lib.ListN.{length, getD}
 use Rattle.lists.proofs.Tests.{and-T, T-and, eq-T, any-at, at-any}
 use Rattle.picture.specs.declared.Link.{Link}
 use Rattle.picture.specs.Layout.{editionOf}
-use Rattle.picture.specs.Picture.{Picture, headerOf, pictureOf}
+use Rattle.picture.specs.Picture.{headerOf, pictureOf}
 use Rattle.picture.specs.Faults.{pictureFault}
 use Rattle.picture.specs.Rules.{noLink}
 use Rattle.picture.proofs.Starts.{slots-length, endpoints-length}
 use Rattle.picture.proofs.Accepted.{accepted-kept}
-use Rattle.network.specs.Words.{slotCount, endpointCount, joins}
+use Rattle.network.specs.Words.{slotCount, endpointCount, joins, Named}
 
 -- ---- a link
 
@@ -40,11 +40,6 @@ at-joins {ls} {a} {b} j =
     at-any noLink _ ls (j .at) (j .within) (T-and (eqb (l .from) a) (eqb (l .to) b) (eq-T (l .from) a (j .from)) (eq-T (l .to) b (j .to)))
 
 -- ---- what links name
-
--- the marks are of locations 0 to n alone, so they tell what chains reach only where no link leads past n
-pub record Named (p : Picture) : Type 0 where
-  pub links : (a b : ℕ) → T (joins (p .links) a b) → (a ≤ slotCount p) × (b ≤ slotCount p)
-  pub services : (a c : ℕ) → T (joins (p .serviceLinks) a c) → (a ≤ slotCount p) × (1 ≤ c) × (c ≤ endpointCount p)
 
 module _ (bs : List ℕ) where
   -- the counts are the header's

@@ -6,9 +6,9 @@ use mathlib.Core.List.{List, [], _∷_, _++_, map}
 use Prim.Native.Nat.{ℕ, zero, suc, _+_, _*_, _/_, _≤_}
 use lib.Dec.{T, leb, eqb}
 use lib.ListN.{length, getD}
-use Rattle.lists.specs.Lists.{range, on, sum, any, filter, item}
+use Rattle.lists.specs.Lists.{range, on, sum, all, any, filter, item}
 use Rattle.lists.specs.Totals.{Total}
-use Rattle.lists.proofs.Tests.{at-any}
+use Rattle.lists.proofs.Tests.{at-any, all-any}
 use Rattle.graph.specs.Chains.{Reached}
 use Rattle.graph.specs.Rounds.{reachedIn}
 use Rattle.picture.specs.declared.Link.{Link}
@@ -47,6 +47,10 @@ module _ (f : Link → Bool) where
   repeats-any (again xs l ys t r) =
       repeats-any r ∙ any-append xs ys
       ∙ sym (any-append xs (l ∷ ys) ∙ absorbed (any f xs) (f l) (any f ys) (λ h. subst T (any-append xs ys) (found-there (xs ++ ys) l t h)))
+
+-- nor does a test of all links
+pub repeats-all : (f : Link → Bool) {ls ls′ : List Link} → Repeats ls ls′ → all f ls ≡ all f ls′
+repeats-all f {ls} {ls′} r = all-any f ls ∙ ap not (repeats-any (λ l. not (f l)) r) ∙ sym (all-any f ls′)
 
 -- so a repeated link joins nothing new
 pub repeats-join : {ls ls′ : List Link} → Repeats ls ls′ → joins ls ≡ joins ls′
@@ -101,7 +105,7 @@ module _ {p q : Picture} (r : Repeated p q) where
   repeated-services = repeats-join (r .serviceLinks)
 
   -- what does not speak of links
-  same-slot : slotOf p ≡ slotOf q
+  pub same-slot : slotOf p ≡ slotOf q
   unfolding slotOf
   same-slot = λ i v. item (r .slots i) v (record { state = 2; near = false })
 
@@ -109,11 +113,11 @@ module _ {p q : Picture} (r : Repeated p q) where
   unfolding slotCount
   same-slots = ap length (r .slots)
 
-  same-blocks : blockCount p ≡ blockCount q
+  pub same-blocks : blockCount p ≡ blockCount q
   unfolding blockCount
   same-blocks = λ i. same-slots i / r .blockSize i
 
-  same-block : inBlock p ≡ inBlock q
+  pub same-block : inBlock p ≡ inBlock q
   unfolding inBlock
   same-block = λ i b v. leb (b * r .blockSize i + 1) v && leb v (b * r .blockSize i + r .blockSize i)
 

@@ -8,9 +8,9 @@ use Rattle.lists.proofs.Tests.{and-T, T-and, eq-T, any-at, at-any}
 use Rattle.graph.proofs.Settling.{marked-reached, reached-marked}
 use Rattle.picture.specs.Picture.{Picture}
 use Rattle.picture.specs.Rules.{noLink}
-use Rattle.network.specs.Words.{slotCount, isHeld, heldWithout, joins, Served, Cuts}
+use Rattle.network.specs.Words.{slotCount, isHeld, heldWithout, joins, Served, Cuts, Named}
 use Rattle.network.specs.Tests.{marks, served, cut}
-use Rattle.network.proofs.Named.{Named, joins-at, at-joins}
+use Rattle.network.proofs.Named.{joins-at, at-joins}
 
 pub marked-served : (p : Picture) (held : ℕ → Bool) (c : ℕ) → T (served p (marks p held) c) → Served p held c
 unfolding served marks

@@ -19,9 +19,9 @@ use Rattle.picture.specs.Picture.{Picture, Endpoint, headerOf, pictureOf, endpo
 use Rattle.picture.specs.Faults.{pictureFault}
 use Rattle.picture.proofs.Starts.{field-first, endpoint-row}
 use Rattle.picture.proofs.Accepted.{accepted-kept}
-use Rattle.network.specs.Words.{endpointCount, isHeld, heldWithout, weightOf, Served, Cuts, ServedWeight, Loss, CutsProtected}
+use Rattle.network.specs.Words.{endpointCount, isHeld, heldWithout, weightOf, Served, Cuts, ServedWeight, Loss, CutsProtected, Named}
 use Rattle.network.specs.Tests.{marks, served, cut, weightWhere, weighed}
-use Rattle.network.proofs.Named.{Named, endpoints-counted}
+use Rattle.network.proofs.Named.{endpoints-counted}
 use Rattle.network.proofs.Service.{marked-served, served-marked, cut-cuts, cuts-cut}
 
 -- ---- the sums and the mark

@@ -85,3 +85,9 @@ pub record Candidate (p : Picture) (b : ℕ) : Type 0 where
 -- it is admissible if it cuts no protected endpoint
 abbrev pub Admissible : Picture → ℕ → Type 0
 Admissible p b = ¬ CutsProtected p b
+
+-- links lead between the picture's own locations, and service links from them to its own endpoints: so do those of every accepted picture
+-- (`accepted-named`, proofs/Named.antt). What is computed goes over these locations and endpoints alone
+pub record Named (p : Picture) : Type 0 where
+  pub links : (a b : ℕ) → T (joins (p .links) a b) → (a ≤ slotCount p) × (b ≤ slotCount p)
+  pub services : (a c : ℕ) → T (joins (p .serviceLinks) a c) → (a ≤ slotCount p) × (1 ≤ c) × (c ≤ endpointCount p)

@@ -10,8 +10,8 @@ use Rattle.picture.specs.declared.Header.{Header}
 use Rattle.picture.specs.declared.Reading.{Reading}
 use Rattle.picture.specs.declared.Reading.the-variants.{Accepted, Refused}
 use Rattle.picture.specs.Picture.{headerOf}
-use Rattle.picture.specs.Faults.{pictureFault, readingOf, reading}
-use Rattle.picture.specs.Answers.{headerValues, readingNumbers}
+use Rattle.picture.specs.Faults.{pictureFault}
+use Rattle.picture.specs.Answers.{readingOf, reading, headerValues, readingNumbers}
 use Rattle.picture.specs.Inner.{Read}
 
 -- ---- from the number to the answer

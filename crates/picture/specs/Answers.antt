@@ -1,9 +1,20 @@
--- Document 01's numbers for each case of the answer of reading. Assumes nothing.
+-- What reading answers, and document 01's numbers for each case of it. Assumes nothing.
 use mathlib.Core.List.{List, [], _∷_}
-use Prim.Native.Nat.{ℕ}
+use Prim.Native.Nat.{ℕ, zero, suc}
 use Rattle.picture.specs.declared.Header.{Header}
 use Rattle.picture.specs.declared.Reading.{Reading}
 use Rattle.picture.specs.declared.Reading.the-variants.{Accepted, Refused}
+use Rattle.picture.specs.Picture.{headerOf}
+use Rattle.picture.specs.Faults.{pictureFault}
+
+-- 0 is accepted, with the header's numbers; any other number is a refusal
+unfoldable pub readingOf : ℕ → Header → Reading
+readingOf zero h = Accepted h
+readingOf (suc k) h = Refused (suc k)
+
+-- what reading any bytes answers
+unfoldable pub reading : List ℕ → Reading
+reading bs = readingOf (pictureFault bs) (headerOf bs)
 
 -- β, n, κ, D, L, S
 unfoldable pub headerValues : Header → List ℕ

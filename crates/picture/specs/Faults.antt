@@ -2,17 +2,15 @@
 -- show that the number is that of the first rule broken. Assumes nothing.
 use mathlib.Core.Bool.{Bool, not, _&&_, _||_}
 use mathlib.Core.List.{List, [], _∷_, _++_, map}
-use Prim.Native.Nat.{ℕ, zero, suc, _-_, _*_, _/_, _%_}
+use Prim.Native.Nat.{ℕ, _-_, _*_, _/_, _%_}
 use lib.Dec.{eqb, leb, ltb}
 use lib.ListN.{length}
 use Rattle.bits.specs.Bits.{fieldAt}
 use Rattle.lists.specs.Lists.{on, first}
 use Rattle.picture.specs.declared.Header.{Header}
 use Rattle.picture.specs.declared.Link.{Link}
-use Rattle.picture.specs.declared.Reading.{Reading}
-use Rattle.picture.specs.declared.Reading.the-variants.{Accepted, Refused}
 use Rattle.picture.specs.Layout.{Edition, editionOf, headerWidths, fieldIn, blockSizeMax, blocksMax, endpointsMax, linksMax, stateMax, leastBytes, endAt, sizeOf}
-use Rattle.picture.specs.Picture.{Picture, headerIn, headerOf, pictureWith}
+use Rattle.picture.specs.Picture.{Picture, headerIn, pictureWith}
 
 -- 3: β is 1 to 8; n is 1 to its limit, a multiple of β with n/β at most 60
 unfoldable pub sizesRight : Edition → Header → Bool
@@ -68,12 +66,3 @@ pictureFault bs =
     let e : Edition = editionOf bs in
     let h : Header = headerIn e bs in
     first (faultsWith e h (pictureWith e h bs) bs)
-
--- 0 is accepted, with the header's numbers; any other number is a refusal
-unfoldable pub readingOf : ℕ → Header → Reading
-readingOf zero h = Accepted h
-readingOf (suc k) h = Refused (suc k)
-
--- what reading any bytes answers
-unfoldable pub reading : List ℕ → Reading
-reading bs = readingOf (pictureFault bs) (headerOf bs)

@@ -1,13 +1,13 @@
 -- The definitions that the contracts of `picture` cite. Document 01, "The picture".
 
 -- To be believed: what 01 says of a picture. The widths of its fields, its parts and its limits; what its bytes say; the rules that it
--- keeps, with the number of each; and 01's numbers for each answer
+-- keeps, with the number of each; and what reading answers, with 01's numbers
 pub mod Layout
 pub mod Picture
 pub mod Rules
 pub mod Answers
--- Computes: the number of the first fault of any bytes, and the answer by it. `judged` of proofs/Accepted.antt shows that it is the number
--- of the first rule that is broken, or 0 where all of them hold
+-- Computes: the number of the first fault of any bytes. `judged` of proofs/Accepted.antt shows that it is the number of the first rule that
+-- is broken, or 0 where all of them hold
 pub mod Faults
 -- Serves inner contracts alone: nothing in it is promised
 pub mod Inner

@@ -7,10 +7,10 @@ ghost use Rattle.bits.specs.Bits.{putField};
 ghost use Rattle.lists.specs.Lists.{first, sum, outcome};
 ghost use Rattle.picture.specs.Layout.{edition1, slotWidths, slotsAt, sizeOf};
 ghost use Rattle.picture.specs.Picture.{headerIn, headerOf, linkAt, pictureWith, slotOf, endpointOf};
-ghost use Rattle.picture.specs.Faults.{sizesRight, countsRight, stateFault, linkFault, serviceLinkFault, endRight, bodyFaults, pictureFault, reading};
+ghost use Rattle.picture.specs.Faults.{sizesRight, countsRight, stateFault, linkFault, serviceLinkFault, endRight, bodyFaults, pictureFault};
+ghost use Rattle.picture.specs.Answers.{reading, headerValues, readingNumbers};
 ghost use Rattle.picture.specs.Rules.{noLink};
 ghost use Rattle.picture.specs.Inner.{Limited, placesOf};
-ghost use Rattle.picture.specs.Answers.{headerValues, readingNumbers};
 
 pub mod refusals;
 

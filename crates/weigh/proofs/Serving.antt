@@ -19,10 +19,9 @@ use Rattle.picture.specs.declared.Header.{Header}
 use Rattle.picture.specs.Picture.{Picture, pictureOf, endpointOf}
 use Rattle.picture.specs.Inner.{Read}
 use Rattle.picture.proofs.Facts.{read-limited}
-use Rattle.network.specs.Words.{endpointCount, inBlock, isHeld, heldWithout, joins}
+use Rattle.network.specs.Words.{endpointCount, inBlock, isHeld, heldWithout, joins, Named}
 use Rattle.network.specs.Tests.{marks, served, cut, weightWhere, servedWeight, weighed}
 use Rattle.network.specs.Rows.{RowsOf, SlotRowsOf, EndpointsOf, BlockRow}
-use Rattle.network.proofs.Named.{Named}
 use Rattle.network.proofs.Service.{marked-served, served-marked}
 use Rattle.network.proofs.Weights.{weight-small}
 use Rattle.weigh.specs.Sums.{Small, Meets, LostBetween, weightBetween, markBetween}

@@ -2,11 +2,11 @@
 use mathlib.Core.Path.{_≡_, refl, sym, ap, _∙_}
 use mathlib.Core.Logic.{_≢_}
 use mathlib.Core.List.{List, [], _∷_}
-use Prim.Native.Nat.{ℕ, zero, suc, _≤_, _<_}
+use Prim.Native.Nat.{ℕ, _≤_, _<_}
 use native.Mathlib.Omega.{arith}
 use borrow.Author.Tests.{ne-eqb, lt-ltb}
 use lib.ListN.{length}
-use Rattle.lists.specs.Lists.{first, outcome}
+use Rattle.lists.specs.Lists.{first}
 use Rattle.lists.proofs.Answers.{answer-refused, answer-numbers}
 use Rattle.lists.proofs.Faults.{first-skip, stop-at, first-in}
 use Rattle.picture.proofs.Finding.{tells}

@@ -8,6 +8,7 @@ use Rattle.picture.specs.Picture.{pictureOf}
 use Rattle.network.specs.Tests.{weighed}
 use Rattle.weigh.specs.declared.Weights.{Weights}
 use Rattle.weigh.specs.Weighing.{weightsOf}
+use Rattle.acts.specs.Faults.{cutFault}
 use Rattle.acts.proofs.block_cut_fault.Statement.{statement}
 use Rattle.acts.proofs.block_cut_fault.Tie as tie
 
@@ -20,11 +21,11 @@ weigh-block-requires : tie.Need-weigh-block-requires
 weigh-block-requires c κs = search needs
 
 returns : tie.Need-returns
-unfolding on
+unfolding on cutFault
 returns c = ap (λ (t : Bool). on t 10) (sym (eq-eqb _ _ (sym (mark (c .before .before)) ∙ c .if1 .taken)))
 
 returns-2 : tie.Need-returns-2
-unfolding on
+unfolding on cutFault
 returns-2 c = ap (λ (t : Bool). on t 10) (sym (ne-eqb _ _ (λ e. c .if1 .left (mark (c .before .before) ∙ e))))
 
 pub block-cut-fault-spec : {M : Type 1} → statement M

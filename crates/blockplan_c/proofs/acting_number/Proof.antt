@@ -2,7 +2,7 @@
 use mathlib.Core.Path.{sym, ap, _∙_}
 use native.Mathlib.Omega.{arith}
 use Rattle.acts.specs.declared.Acting.{Acting}
-use Rattle.acts.specs.Acts.{actingNumbers}
+use Rattle.acts.specs.Answers.{actingNumbers}
 use Rattle.blockplan_c.specs.Answers.{toC}
 use Rattle.blockplan_c.proofs.Numbers.{passed-on, refused-number}
 use borrow.Author.Needs.{needs}

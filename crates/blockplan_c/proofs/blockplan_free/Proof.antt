@@ -1,7 +1,7 @@
 -- `blockplan_free` is one call, and answers its number. Assumes nothing.
 use mathlib.Core.Path.{ap, _∙_}
 use Rattle.acts.specs.declared.Acting.{Acting}
-use Rattle.acts.specs.Acts.{actingNumbers}
+use Rattle.acts.specs.Answers.{actingNumbers}
 use Rattle.blockplan_c.specs.Answers.{toC}
 use Rattle.blockplan_c.proofs.Numbers.{passed-on}
 use borrow.Author.Needs.{needs}

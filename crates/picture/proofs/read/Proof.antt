@@ -3,7 +3,7 @@ use mathlib.Core.Path.{sym, ap, _∙_}
 use Prim.Native.Nat.{ℕ}
 use Rattle.picture.specs.declared.Reading.the-variants.{Accepted}
 use Rattle.picture.specs.Picture.{headerOf}
-use Rattle.picture.specs.Faults.{readingOf, reading}
+use Rattle.picture.specs.Answers.{readingOf, reading}
 use Rattle.picture.proofs.Answering.{told, told-accepted, told-refused}
 use borrow.Author.Needs.{needs}
 use Rattle.picture.proofs.read.Statement.{statement}
