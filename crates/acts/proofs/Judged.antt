@@ -16,7 +16,7 @@ use Rattle.lists.proofs.Rules.{judged-then, numbered-both, hold-both}
 use Rattle.picture.specs.Picture.{Picture, pictureOf, slotOf}
 use Rattle.picture.specs.Faults.{pictureFault}
 use Rattle.picture.specs.Rules.{rules}
-use Rattle.picture.proofs.Accepted.{judged as picture-judged, numbered}
+use Rattle.picture.proofs.Accepted.{picture-judged, numbered}
 use Rattle.network.specs.Words.{slotCount, blockCount, inBlock, Admissible, Named}
 use Rattle.network.specs.Tests.{weighed}
 use Rattle.network.proofs.Named.{accepted-named}
@@ -118,9 +118,9 @@ pub record Doable (a : Act) (bs : List ℕ) (b : ℕ) : Type 0 where
 
 module _ (a : Act) (bs : List ℕ) (b : ℕ) where
   -- which number
-  pub judged : Judged (actRules a bs b) (actFault a bs b)
+  pub act-judged : Judged (actRules a bs b) (actFault a bs b)
   unfolding actRules actFault blockFault
-  judged =
+  act-judged =
       let p = pictureOf bs in
       judged-then _ (picture-judged bs) (numbered bs)
       (λ z.
@@ -136,10 +136,10 @@ module _ (a : Act) (bs : List ℕ) (b : ℕ) where
 
   -- done exactly where every rule is kept
   pub done-holds : actFault a bs b ≡ 0 → AllHold (actRules a bs b)
-  done-holds z = judged-all judged act-numbered z
+  done-holds z = judged-all act-judged act-numbered z
 
   pub holds-done : AllHold (actRules a bs b) → actFault a bs b ≡ 0
-  holds-done k = all-judged judged k
+  holds-done k = all-judged act-judged k
 
   pub doable-done : Doable a bs b → actFault a bs b ≡ 0
   unfolding actRules

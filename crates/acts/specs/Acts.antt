@@ -6,7 +6,7 @@ use lib.Dec.{T, eqb}
 use lib.ListN.{length}
 use Rattle.bits.specs.Bits.{putField}
 use Rattle.lists.specs.Lists.{range, sum, filter}
-use Rattle.picture.specs.Layout.{Edition, editionOf, slotWidths, slotsAt}
+use Rattle.picture.specs.Layout.{Edition, editionOf, stateBits, slotWidths, slotsAt}
 use Rattle.picture.specs.Picture.{Picture, Slot, pictureOf, slotOf}
 use Rattle.network.specs.Words.{slotCount, inBlock}
 use Rattle.network.specs.Tests.{isNearHeld}
@@ -36,18 +36,18 @@ nearAfter p b = length (filter (λ v. isNearHeld p v || recoverableNear p b v) (
 unfoldable pub stateAt : Edition → ℕ → ℕ
 stateAt e i = slotsAt e + i * sum slotWidths
 
--- bit m is one of the two of the state of a slot of block b
+-- bit m is one of the state of a slot of block b
 pub record StateBit (e : Edition) (p : Picture) (b m : ℕ) : Type 0 where
   pub before : ℕ
   pub inside : T (inBlock p b (suc before))
   pub from : stateAt e before ≤ m
-  pub below : m < stateAt e before + 2
+  pub below : m < stateAt e before + stateBits
 
 -- the bytes with the state of each slot of a list set by f: the state bits only
 unfoldable pub putStates : Edition → (ℕ → ℕ) → List ℕ → List ℕ → List ℕ
 putStates e f bs [] = bs
 putStates e f bs (zero ∷ vs) = putStates e f bs vs
-putStates e f bs (suc i ∷ vs) = putField (putStates e f bs vs) (stateAt e i) 2 (f (suc i))
+putStates e f bs (suc i ∷ vs) = putField (putStates e f bs vs) (stateAt e i) stateBits (f (suc i))
 
 -- the picture's bytes where the act is done
 unfoldable pub doneBytes : Act → List ℕ → ℕ → List ℕ

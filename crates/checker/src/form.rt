@@ -6,8 +6,7 @@ ghost use Rattle.rows.specs.Rows.{slotsMax};
 ghost use Rattle.picture.specs.Layout.{blocksMax};
 ghost use Rattle.network.specs.Rows.{blocksMarked};
 ghost use Rattle.checker.specs.Form.{headTest, sectionTest, formTest};
-use evidence::BYTE_BITS;
-use evidence::EDITION;
+use picture::EDITION;
 use rows::WORDS;
 
 // Whether evidence has the form for a picture, and how many candidates the picture has.
@@ -33,7 +32,7 @@ fn head_right(ev: &[u8], n: usize, count: usize) -> bool
     requires { ⌜ (n ≤ slotsMax) × (count ≤ 255) ⌝ }
     ensures { λ r. ⌜ r ≡ headTest n (now (ev .entry)) count ⌝ }
 {
-    if ev.len() != evidence::section_at(n, count) / BYTE_BITS {
+    if ev.len() != evidence::evidence_bytes(n, count) {
         return false;
     }
     let head = evidence::head_of(ev);

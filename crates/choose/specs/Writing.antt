@@ -7,7 +7,7 @@ use Rattle.packing.specs.Packing.{Field, fieldsOf}
 use Rattle.graph.specs.declared.Node.{Node}
 use Rattle.picture.specs.Layout.{edition1}
 use Rattle.network.specs.declared.Cost.{Cost}
-use Rattle.evidence.specs.Layout.{headWidths, sectionWidths, sectionBytes, evidenceMax}
+use Rattle.evidence.specs.Layout.{headWidths, sectionHeadWidths, sectionBytes, evidenceMax}
 use Rattle.evidence.specs.declared.Choice.{Choice}
 use Rattle.evidence.specs.Canonical.{forestFields}
 
@@ -17,7 +17,7 @@ nodesIn parents depths n = map (λ v. record { parent = getD parents v 0; depth 
 
 -- the fields of a section whose forest is in arrays
 unfoldable pub arraySection : Cost → List ℕ → List ℕ → ℕ → List Field
-arraySection w parents depths n = fieldsOf sectionWidths (w .block ∷ w .loss ∷ w .mark ∷ []) ++ forestFields edition1 (nodesIn parents depths n)
+arraySection w parents depths n = fieldsOf sectionHeadWidths (w .block ∷ w .loss ∷ w .mark ∷ []) ++ forestFields edition1 (nodesIn parents depths n)
 
 -- the values of a section's fields fit their widths, and there is room for them. A place is low enough for the numbers of the code
 pub record SectionFits (at n : ℕ) (w : Cost) (parents depths buf : List ℕ) : Type 0 where

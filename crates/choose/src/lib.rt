@@ -21,7 +21,6 @@ use evidence::BYTE_BITS;
 use evidence::COUNT_AT;
 use evidence::COUNT_BITS;
 use evidence::Choice;
-use evidence::EDITION;
 use evidence::EDITION_BITS;
 use evidence::HEAD_BYTES;
 use evidence::LOSS_AT;
@@ -31,11 +30,12 @@ use evidence::SECTION_HEAD_BYTES;
 use evidence::SECTION_LOSS_AT;
 use evidence::SECTION_MARK_AT;
 use evidence::SERVED_AT;
+use evidence::SUM_BITS;
 use evidence::VERDICT_AT;
 use evidence::VERDICT_BITS;
-use evidence::WEIGHT_BITS;
 use network::Cost;
 use network::ENDPOINTS;
+use picture::EDITION;
 use picture::Header;
 use picture::Reading;
 use picture::refusals::BUFFER;
@@ -99,7 +99,7 @@ pub fn make_plan(s: &[u8], h: Header) -> Plan
     let held = slots.held;
     let near = slots.near;
     let count = count_candidates(size, n / size, near);
-    let length = evidence::section_at(n, count) / BYTE_BITS;
+    let length = evidence::evidence_bytes(n, count);
     Plan {
         held,
         near,
@@ -115,7 +115,7 @@ fn put_section(buf: &mut [u8], at: usize, n: usize, w: Cost, parent: &[u8], dept
 {
     let q = at * BYTE_BITS;
     bits::put_field(buf, q, BLOCK_BITS, w.block);
-    bits::put_field(buf, q + SECTION_LOSS_AT, WEIGHT_BITS, w.loss);
+    bits::put_field(buf, q + SECTION_LOSS_AT, SUM_BITS, w.loss);
     bits::put_field(buf, q + SECTION_MARK_AT, MARK_BITS, w.mark);
     put_forest(buf, at + SECTION_HEAD_BYTES, n, parent, depth);
 }
@@ -216,8 +216,8 @@ fn put_head(buf: &mut [u8], c: Choice, count: usize, served: usize)
     bits::put_field(buf, VERDICT_AT, VERDICT_BITS, c.verdict);
     bits::put_field(buf, BLOCK_AT, BLOCK_BITS, c.block);
     bits::put_field(buf, COUNT_AT, COUNT_BITS, count);
-    bits::put_field(buf, SERVED_AT, WEIGHT_BITS, served);
-    bits::put_field(buf, LOSS_AT, WEIGHT_BITS, c.loss);
+    bits::put_field(buf, SERVED_AT, SUM_BITS, served);
+    bits::put_field(buf, LOSS_AT, SUM_BITS, c.loss);
 }
 
 // The evidence of an accepted picture, over the front of a buffer that is long enough.

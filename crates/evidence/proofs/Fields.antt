@@ -29,7 +29,7 @@ use Rattle.network.proofs.Named.{slots-counted}
 use Rattle.network.proofs.Weights.{mark-le, weighed-block, weights-small}
 use Rattle.network.proofs.Candidates.{candidates-below}
 use Rattle.network.proofs.Blocks.{read-blocks}
-use Rattle.evidence.specs.Layout.{headWidths, nodeWidths, sectionWidths, forestBits, sectionBits, sectionAt, evidenceBytes}
+use Rattle.evidence.specs.Layout.{headWidths, nodeWidths, sectionHeadWidths, forestBits, sectionBits, sectionAt, evidenceBytes}
 use Rattle.evidence.specs.declared.Choice.{Choice}
 use Rattle.evidence.specs.Canonical.{noCost, weighings, least, headFields, nodeFields, forestFields, forestOf, sectionFields, evidenceFields, evidenceOf}
 use Rattle.evidence.specs.Calls.{lengthFor}
@@ -67,8 +67,8 @@ module _ (e : Edition) where
     pub section-span : (w : Cost) → span (sectionFields e p w) ≡ sectionBits e (slotCount p)
     unfolding sectionFields sectionBits
     section-span w =
-        span-append (fieldsOf sectionWidths (w .block ∷ w .loss ∷ w .mark ∷ [])) (forestFields e (forestOf p (heldWithout p (w .block))))
-        ∙ ap (λ (n : ℕ). span (fieldsOf sectionWidths (w .block ∷ w .loss ∷ w .mark ∷ [])) + n) (forest-span (heldWithout p (w .block))) ∙ unfold span fieldsOf sectionWidths sum in refl
+        span-append (fieldsOf sectionHeadWidths (w .block ∷ w .loss ∷ w .mark ∷ [])) (forestFields e (forestOf p (heldWithout p (w .block))))
+        ∙ ap (λ (n : ℕ). span (fieldsOf sectionHeadWidths (w .block ∷ w .loss ∷ w .mark ∷ [])) + n) (forest-span (heldWithout p (w .block))) ∙ unfold span fieldsOf sectionHeadWidths sum in refl
 
     pub sections-span : (ws : List Cost) → span (flat (map (sectionFields e p) ws)) ≡ length ws * sectionBits e (slotCount p)
     sections-span = span-flat (sectionFields e p) (sectionBits e (slotCount p)) section-span
@@ -160,7 +160,7 @@ module _ (bs : List ℕ) (z : pictureFault bs ≡ 0) where
       (omega arith, (omega arith, (omega arith, (omega (arith, weighings-length p, candidates-few), (served-small, (c .2, tt))))))
 
   section-fits : (i : ℕ) → i < length (weighings p) → Fit (sectionFields edition1 p (getD (weighings p) i noCost))
-  unfolding sectionFields sectionWidths fieldsOf Fit
+  unfolding sectionFields sectionHeadWidths fieldsOf Fit
   section-fits i h =
       (omega (arith, block-at i h), (loss-at i h, (omega (arith, mark-at i h), forest-fits edition1 p (omega (arith, slots-small)) _)))
 

@@ -22,7 +22,7 @@ use Rattle.network.specs.Words.{slotCount, isHeld, heldWithout}
 use Rattle.network.specs.declared.Cost.{Cost}
 use Rattle.network.specs.Tests.{weighed, servedWeight, candidates}
 use Rattle.network.proofs.Weights.{weighed-block}
-use Rattle.evidence.specs.Layout.{headWidths, nodeWidths, sectionWidths, sectionBits, sectionAt, forestAt}
+use Rattle.evidence.specs.Layout.{headWidths, nodeWidths, sectionHeadWidths, sectionBits, sectionAt, forestAt}
 use Rattle.evidence.specs.Canonical.{noCost, weighings, least, headFields, nodeFields, forestFields, forestOf, sectionFields, evidenceFields, evidenceOf}
 use Rattle.evidence.specs.Contents.{headIn, sectionIn, nodeAt, forestIn, firstForest, sectionForest}
 use Rattle.evidence.proofs.Weighings.{weighings-length, weighing-at}
@@ -106,19 +106,19 @@ module _ (e : Edition) (p : Picture) (ev : List ℕ) (parts : Parts e p ev) wher
     abbrev w : Cost
     w = weighed p (getD (candidates p) i 0)
 
-    start : Holds ev (sectionAt e (slotCount p) i) (fieldsOf sectionWidths (w .block ∷ w .loss ∷ w .mark ∷ []))
-        × Holds ev (sectionAt e (slotCount p) i + sum sectionWidths) (forestFields e (forestOf p (heldWithout p (w .block))))
-    unfolding sectionFields sectionWidths fieldsOf span sum
-    start = holds-append ev (sectionAt e (slotCount p) i) (fieldsOf sectionWidths (w .block ∷ w .loss ∷ w .mark ∷ [])) (forestFields e (forestOf p (heldWithout p (w .block)))) (parts .sections i s)
+    start : Holds ev (sectionAt e (slotCount p) i) (fieldsOf sectionHeadWidths (w .block ∷ w .loss ∷ w .mark ∷ []))
+        × Holds ev (sectionAt e (slotCount p) i + sum sectionHeadWidths) (forestFields e (forestOf p (heldWithout p (w .block))))
+    unfolding sectionFields sectionHeadWidths fieldsOf span sum
+    start = holds-append ev (sectionAt e (slotCount p) i) (fieldsOf sectionHeadWidths (w .block ∷ w .loss ∷ w .mark ∷ [])) (forestFields e (forestOf p (heldWithout p (w .block)))) (parts .sections i s)
 
-    section-read : (k : ℕ) → k < 3 → fieldIn ev sectionWidths (sectionAt e (slotCount p) i) k ≡ getD (w .block ∷ w .loss ∷ w .mark ∷ []) k 0
-    unfolding sectionWidths
-    section-read k m = fields-read ev sectionWidths _ (sectionAt e (slotCount p) i) (start .0) k m m
+    section-read : (k : ℕ) → k < 3 → fieldIn ev sectionHeadWidths (sectionAt e (slotCount p) i) k ≡ getD (w .block ∷ w .loss ∷ w .mark ∷ []) k 0
+    unfolding sectionHeadWidths
+    section-read k m = fields-read ev sectionHeadWidths _ (sectionAt e (slotCount p) i) (start .0) k m m
 
     section-forest : sectionForest e (slotCount p) ev i ≡ forestOf p (heldWithout p (getD (candidates p) i 0))
     unfolding sectionForest forestAt
     section-forest =
-        forest-read e (slotCount p) ev (sectionAt e (slotCount p) i + sum sectionWidths) (forestOf p (heldWithout p (w .block))) (length-forest-of p (heldWithout p (w .block))) (start .1)
+        forest-read e (slotCount p) ev (sectionAt e (slotCount p) i + sum sectionHeadWidths) (forestOf p (heldWithout p (w .block))) (length-forest-of p (heldWithout p (w .block))) (start .1)
         ∙ rw (weighed-block p (getD (candidates p) i 0))
 
   pub parts-reads : Reads e p ev

@@ -14,7 +14,7 @@ use Rattle.lists.proofs.Faults.{judge-none, Numbered}
 use Rattle.lists.proofs.Rules.{right-then, judged-then}
 use Rattle.picture.specs.Layout.{Edition, editionOf}
 use Rattle.picture.specs.Picture.{Picture, pictureOf}
-use Rattle.picture.proofs.Accepted.{judged, numbered}
+use Rattle.picture.proofs.Accepted.{picture-judged, numbered}
 use Rattle.network.specs.Words.{slotCount, isHeld, Named}
 use Rattle.network.specs.declared.Cost.{Cost}
 use Rattle.network.specs.Tests.{weighed, servedWeight, candidates}
@@ -62,7 +62,7 @@ sections-numbered e p ev i (suc k) = (λ z. absurd (omega arith), (λ z. absurd 
 pub check-judged : (bs ev : List ℕ) → Judged (checkRules bs ev) (checkFault bs ev)
 unfolding checkRules evidenceRulesWith checkFault
 check-judged bs ev =
-    judged-then _ (judged bs) (numbered bs)
+    judged-then _ (picture-judged bs) (numbered bs)
     (λ z.
     let e = editionOf bs in
     let p = pictureOf bs in

@@ -23,7 +23,7 @@ use Rattle.evidence.specs.declared.Choice.{Choice}
 use Rattle.evidence.specs.Canonical.{noCost, least, weighings}
 use Rattle.evidence.specs.Contents.{headIn, sectionIn, sectionForest}
 use Rattle.evidence.specs.Checks.{forestRight, formRight, verdictRight}
-use Rattle.evidence.specs.Rules.{Form, Numbers, Verdict, chosen, none}
+use Rattle.evidence.specs.Rules.{Form, SectionCost, Verdict, chosen, none}
 use Rattle.lists.proofs.Every.{all-range, range-all}
 use Rattle.evidence.proofs.Least.{Chosen, Nothing, least-right, least-none, none-least}
 use Rattle.evidence.proofs.Choosing.{least-loss, least-best, best-least, marked-cut, cut-marked}
@@ -93,12 +93,12 @@ module _ (e : Edition) (p : Picture) (ev : List ℕ) (i : ℕ) (w : Cost) where
 -- ---- 15 of the section of block b, by chains
 
 module _ {p : Picture} (n : Named p) (e : Edition) (ev : List ℕ) (i b : ℕ) where
-  pub right-numbers : sectionIn e (slotCount p) ev i .loss ≡ weighed p b .loss → sectionIn e (slotCount p) ev i .mark ≡ weighed p b .mark → Numbers e p ev i b
+  pub right-numbers : sectionIn e (slotCount p) ev i .loss ≡ weighed p b .loss → sectionIn e (slotCount p) ev i .mark ≡ weighed p b .mark → SectionCost e p ev i b
   right-numbers l m =
       record { loss = rw l (loss-weight n b); marked = λ o. mark-protected n b (sym m ∙ o); unmarked = λ k. m ∙ protected-mark n k }
 
   -- a mark over 1 is a fault of the form
-  pub numbers-right : sectionIn e (slotCount p) ev i .mark ≤ 1 → Numbers e p ev i b
+  pub numbers-right : sectionIn e (slotCount p) ev i .mark ≤ 1 → SectionCost e p ev i b
       → (sectionIn e (slotCount p) ev i .loss ≡ weighed p b .loss) × (sectionIn e (slotCount p) ev i .mark ≡ weighed p b .mark)
   numbers-right h s = (
     total-one (s .loss) (loss-weight n b),

@@ -13,12 +13,12 @@ use Rattle.picture.specs.Layout.{Edition, editionOf}
 use Rattle.picture.specs.Picture.{Picture, pictureOf}
 use Rattle.picture.specs.Faults.{pictureFault}
 use Rattle.picture.specs.Rules.{rules}
-use Rattle.picture.proofs.Accepted.{judged, numbered}
+use Rattle.picture.proofs.Accepted.{picture-judged, numbered}
 use Rattle.network.specs.Words.{slotCount, isHeld, joins, ServedWeight}
 use Rattle.network.specs.Tests.{candidates}
 use Rattle.evidence.specs.Contents.{headIn, firstForest}
 use Rattle.evidence.specs.Checks.{checkFault}
-use Rattle.evidence.specs.Rules.{Form, SectionForest, Numbers, Verdict, sectionRules, evidenceRulesWith, checkRules}
+use Rattle.evidence.specs.Rules.{Form, SectionForest, SectionCost, Verdict, sectionRules, evidenceRulesWith, checkRules}
 use Rattle.evidence.proofs.Judged.{check-judged, sections-numbered}
 
 -- ---- the check passes exactly where every rule holds
@@ -42,7 +42,7 @@ module _ (bs ev : List ℕ) where
 -- 14 and 15 of the section of block b
 pub record Section (e : Edition) (p : Picture) (ev : List ℕ) (i b : ℕ) : Type 0 where
   pub forest : SectionForest e p ev i b
-  pub numbers : Numbers e p ev i b
+  pub numbers : SectionCost e p ev i b
 
 -- evidence that passes for a picture
 pub record Passes (bs ev : List ℕ) : Type 0 where
@@ -91,12 +91,12 @@ module _ (bs ev : List ℕ) where
 
   holds-passes : AllHold (checkRules bs ev) → Passes bs ev
   unfolding checkRules
-  holds-passes a = evidence-passes (all-judged (judged bs) (hold-left (rules bs) _ a)) (hold-right (rules bs) _ a)
+  holds-passes a = evidence-passes (all-judged (picture-judged bs) (hold-left (rules bs) _ a)) (hold-right (rules bs) _ a)
 
   passes-holds : Passes bs ev → AllHold (checkRules bs ev)
   unfolding checkRules evidenceRulesWith
   passes-holds k =
-      hold-both (judged-all (judged bs) (numbered bs) (k .accepted))
+      hold-both (judged-all (picture-judged bs) (numbered bs) (k .accepted))
       (more (k .form) (more (k .forest) (more (k .served)
       (hold-both (section-holds (editionOf bs) (pictureOf bs) ev 0 (length (candidates (pictureOf bs))) (λ j _ h. k .sections j (omega arith))) (more (k .verdict) none)))))
 

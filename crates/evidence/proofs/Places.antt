@@ -9,12 +9,12 @@ use Rattle.bits.proofs.Reading.{fieldAt-below}
 use Rattle.lists.specs.Lists.{sum}
 use Rattle.rows.specs.Rows.{slotsMax}
 use Rattle.picture.specs.Layout.{edition1, fieldIn}
-use Rattle.evidence.specs.Layout.{headWidths, nodeWidths, sectionWidths, forestBits, sectionBits, sectionBytes, sectionAt, forestAt}
+use Rattle.evidence.specs.Layout.{headWidths, nodeWidths, sectionHeadWidths, forestBits, sectionBits, sectionBytes, sectionAt, forestAt}
 use Rattle.evidence.specs.Contents.{headIn, sectionIn}
 
 -- the numbers of edition 1, as the code has them
 pub section-bits : (n : ℕ) → sectionBits edition1 n ≡ 40 + n * 16
-unfolding sectionBits sectionWidths forestBits nodeWidths sum
+unfolding sectionBits sectionHeadWidths forestBits nodeWidths sum
 section-bits n = refl
 
 pub section-bytes : (n : ℕ) → sectionBytes edition1 n ≡ 5 + n * 2
@@ -37,7 +37,7 @@ pub sections-whole : (n c : ℕ) → c * sectionBits edition1 n ≡ c * sectionB
 sections-whole n c = ap (λ (x : ℕ). c * x) (section-whole n) ∙ sym (mul-assoc c (sectionBytes edition1 n) 8)
 
 pub section-at : (n i : ℕ) → sectionAt edition1 n i ≡ 72 + n * 16 + i * (40 + n * 16)
-unfolding sectionAt headWidths sectionBits sectionWidths forestBits nodeWidths sum
+unfolding sectionAt headWidths sectionBits sectionHeadWidths forestBits nodeWidths sum
 section-at n i = refl
 
 pub section-small : (n i : ℕ) → n ≤ slotsMax → i ≤ 255 → sectionAt edition1 n i < 2 ^ 20
@@ -47,7 +47,7 @@ section-small n i a b =
 
 -- a forest starts where the head ends, and so many sections on
 pub forest-at : (n k : ℕ) → forestAt edition1 n k ≡ sum headWidths + k * sectionBits edition1 n
-unfolding forestAt sectionAt sectionBits headWidths sectionWidths forestBits nodeWidths sum
+unfolding forestAt sectionAt sectionBits headWidths sectionHeadWidths forestBits nodeWidths sum
 forest-at n zero = omega arith
 forest-at n (suc i) = omega (arith, suc-mul i (40 + n * 16))
 
@@ -60,15 +60,15 @@ forest-small n k a b =
 -- the fields of section i, from where it starts
 module _ (n : ℕ) (ev : List ℕ) (i : ℕ) {at : ℕ} (e : at ≡ sectionAt edition1 n i) where
   pub block-at : fieldAt ev at 8 ≡ sectionIn edition1 n ev i .block
-  unfolding sectionIn sectionWidths fieldIn sum
+  unfolding sectionIn sectionHeadWidths fieldIn sum
   block-at = ap (λ (q : ℕ). fieldAt ev q 8) (e ∙ omega arith)
 
   pub loss-at : fieldAt ev (at + 8) 24 ≡ sectionIn edition1 n ev i .loss
-  unfolding sectionIn sectionWidths fieldIn sum
+  unfolding sectionIn sectionHeadWidths fieldIn sum
   loss-at = ap (λ (q : ℕ). fieldAt ev (q + 8) 24) e
 
   pub mark-at : fieldAt ev (at + 32) 8 ≡ sectionIn edition1 n ev i .mark
-  unfolding sectionIn sectionWidths fieldIn sum
+  unfolding sectionIn sectionHeadWidths fieldIn sum
   mark-at = ap (λ (q : ℕ). fieldAt ev (q + 32) 8) e
 
 -- no number that the head or a section states has more than 24 bits
@@ -78,6 +78,6 @@ module _ (ev : List ℕ) where
   head-below = (fieldAt-below ev _ 8 24 refl (omega arith), fieldAt-below ev _ 24 24 refl (omega arith), fieldAt-below ev _ 24 24 refl (omega arith))
 
   pub section-below : (n i : ℕ) → let w = sectionIn edition1 n ev i in (w .block < 2 ^ 24) × (w .loss < 2 ^ 24) × (w .mark < 2 ^ 24)
-  unfolding sectionIn sectionWidths fieldIn
+  unfolding sectionIn sectionHeadWidths fieldIn
   section-below n i =
       (fieldAt-below ev _ 8 24 refl (omega arith), fieldAt-below ev _ 24 24 refl (omega arith), fieldAt-below ev _ 8 24 refl (omega arith))

@@ -17,7 +17,7 @@ use Rattle.network.specs.declared.Cost.{Cost}
 use Rattle.network.specs.Words.{slotCount, joins}
 use Rattle.network.specs.Repeats.{Repeated}
 use Rattle.network.proofs.Repeats.{repeats-all, same-slots, same-held, same-left, repeated-links, repeated-served-weight, repeated-weighed, repeated-candidates}
-use Rattle.evidence.specs.Layout.{sectionWidths, evidenceBytes}
+use Rattle.evidence.specs.Layout.{sectionHeadWidths, evidenceBytes}
 use Rattle.evidence.specs.Canonical.{noCost, weighings, least, headFields, forestFields, forestOf, sectionFields, evidenceFields}
 use Rattle.evidence.specs.Contents.{headIn, sectionIn, firstForest, sectionForest}
 use Rattle.evidence.specs.Checks.{nodeRight, linkRight, forestRight, formRight, sectionFault, verdictRight, checkFault}
@@ -36,7 +36,7 @@ module _ {p q : Picture} (r : Repeated p q) where
       let ws : List Cost = repeated-weighings i in
       headFields e (least ws) (length ws) (repeated-served-weight r i)
       ++ (forestFields e (forest (repeated-links r i) (same-held r i) (same-slots r i))
-      ++ flat (map (λ w. fieldsOf sectionWidths (w .block ∷ w .loss ∷ w .mark ∷ []) ++ forestFields e (forest (repeated-links r i) (same-left r i (w .block)) (same-slots r i))) ws))
+      ++ flat (map (λ w. fieldsOf sectionHeadWidths (w .block ∷ w .loss ∷ w .mark ∷ []) ++ forestFields e (forest (repeated-links r i) (same-left r i (w .block)) (same-slots r i))) ws))
 
   -- ---- what a check finds
 

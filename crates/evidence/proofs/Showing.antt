@@ -23,7 +23,7 @@ use Rattle.network.specs.Words.{slotCount, Candidate}
 use Rattle.network.specs.Tests.{candidates}
 use Rattle.network.proofs.Candidates.{candidate-below, candidates-all}
 use Rattle.evidence.specs.declared.Part.{Part}
-use Rattle.evidence.specs.Layout.{sectionWidths, sectionBytes, sectionAt, evidenceBytes}
+use Rattle.evidence.specs.Layout.{sectionHeadWidths, sectionBytes, sectionAt, evidenceBytes}
 use Rattle.evidence.specs.Contents.{headIn, sectionIn}
 use Rattle.evidence.specs.Checks.{checkFault}
 use Rattle.evidence.specs.Rules.{Verdict, chosen, none}
@@ -111,7 +111,7 @@ module _ (bs ev : List ℕ) where
 
     -- "hands back the chosen candidate's section of the evidence itself"
     pub shown-section : SectionOf (slotCount (pictureOf bs)) (headIn ev .block) (shown bs ev)
-    unfolding shown sectionIn sectionWidths fieldIn sum
+    unfolding shown sectionIn sectionHeadWidths fieldIn sum
     shown-section =
         let n = slotCount (pictureOf bs) in
         let size : shownPart bs ev .size ≡ 5 + 2 * n = ap (λ (p : Part). p .size) shown-part ∙ omega (arith, section-bytes n) in

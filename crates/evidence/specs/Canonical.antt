@@ -14,7 +14,7 @@ use Rattle.network.specs.Words.{slotCount, isHeld, heldWithout, joins}
 use Rattle.network.specs.declared.Cost.{Cost}
 use Rattle.network.specs.Tests.{weighed, servedWeight, candidates}
 use Rattle.evidence.specs.declared.Choice.{Choice}
-use Rattle.evidence.specs.Layout.{headWidths, nodeWidths, sectionWidths}
+use Rattle.evidence.specs.Layout.{headWidths, nodeWidths, sectionHeadWidths}
 
 -- a cost that no list has, for a place past its end
 abbrev pub noCost : Cost
@@ -67,7 +67,7 @@ forestOf p held = forest (joins (p .links)) held (slotCount p)
 
 -- a candidate's section: its block, loss and mark, and the forest with that block evicted
 unfoldable pub sectionFields : Edition → Picture → Cost → List Field
-sectionFields e p w = fieldsOf sectionWidths (w .block ∷ w .loss ∷ w .mark ∷ []) ++ forestFields e (forestOf p (heldWithout p (w .block)))
+sectionFields e p w = fieldsOf sectionHeadWidths (w .block ∷ w .loss ∷ w .mark ∷ []) ++ forestFields e (forestOf p (heldWithout p (w .block)))
 
 -- the head, the first forest, and a section for each candidate
 unfoldable pub evidenceFields : Edition → Picture → List Field

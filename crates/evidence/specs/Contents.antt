@@ -7,7 +7,7 @@ use Rattle.picture.specs.Layout.{Edition, fieldIn}
 use Rattle.picture.specs.Picture.{rows}
 use Rattle.network.specs.declared.Cost.{Cost}
 use Rattle.evidence.specs.declared.Head.{Head}
-use Rattle.evidence.specs.Layout.{headWidths, nodeWidths, sectionWidths, sectionAt, forestAt}
+use Rattle.evidence.specs.Layout.{headWidths, nodeWidths, sectionHeadWidths, sectionAt, forestAt}
 
 -- the head: edition, verdict, block, candidate count, served weight, loss
 unfoldable pub headIn : List ℕ → Head
@@ -25,7 +25,7 @@ headIn ev =
 unfoldable pub sectionIn : Edition → ℕ → List ℕ → ℕ → Cost
 sectionIn e n ev i =
     let at : ℕ = sectionAt e n i in
-    record { block = fieldIn ev sectionWidths at 0; loss = fieldIn ev sectionWidths at 1; mark = fieldIn ev sectionWidths at 2 }
+    record { block = fieldIn ev sectionHeadWidths at 0; loss = fieldIn ev sectionHeadWidths at 1; mark = fieldIn ev sectionHeadWidths at 2 }
 
 -- the node from bit q on, and the n nodes from there on
 unfoldable pub nodeAt : Edition → List ℕ → ℕ → Node

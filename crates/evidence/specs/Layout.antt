@@ -13,8 +13,8 @@ unfoldable pub nodeWidths : Edition → List ℕ
 nodeWidths e = e .locationBits ∷ e .locationBits ∷ []
 
 -- what a candidate's section has before its forest: block, loss, mark
-unfoldable pub sectionWidths : List ℕ
-sectionWidths = 8 ∷ 24 ∷ 8 ∷ []
+unfoldable pub sectionHeadWidths : List ℕ
+sectionHeadWidths = 8 ∷ 24 ∷ 8 ∷ []
 
 -- the forest of n slots
 unfoldable pub forestBits : Edition → ℕ → ℕ
@@ -22,7 +22,7 @@ forestBits e n = n * sum (nodeWidths e)
 
 -- a section: what it has before its forest, and the forest
 unfoldable pub sectionBits : Edition → ℕ → ℕ
-sectionBits e n = sum sectionWidths + forestBits e n
+sectionBits e n = sum sectionHeadWidths + forestBits e n
 
 -- the same in bytes: every edition's sections take whole ones
 unfoldable pub sectionBytes : Edition → ℕ → ℕ
@@ -35,7 +35,7 @@ sectionAt e n i = sum headWidths + forestBits e n + i * sectionBits e n
 -- where forest k starts: forest 0 is the first one, behind the head; forest i + 1 is that of section i, behind what the section has before it
 unfoldable pub forestAt : Edition → ℕ → ℕ → ℕ
 forestAt e n zero = sum headWidths
-forestAt e n (suc i) = sectionAt e n i + sum sectionWidths
+forestAt e n (suc i) = sectionAt e n i + sum sectionHeadWidths
 
 -- the length in bytes for c candidates: 9 + 2n + C(5 + 2n) in edition 1
 unfoldable pub evidenceBytes : Edition → ℕ → ℕ → ℕ

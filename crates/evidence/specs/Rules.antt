@@ -27,7 +27,7 @@ abbrev pub SectionForest : Edition → Picture → List ℕ → ℕ → ℕ → 
 SectionForest e p ev i b = ForestKept (joins (p .links)) (heldWithout p b) (slotCount p) (sectionForest e (slotCount p) ev i)
 
 -- 15 of the section of block b: its loss and mark are those by chains
-pub record Numbers (e : Edition) (p : Picture) (ev : List ℕ) (i b : ℕ) : Type 0 where
+pub record SectionCost (e : Edition) (p : Picture) (ev : List ℕ) (i b : ℕ) : Type 0 where
   pub loss : Loss p b (sectionIn e (slotCount p) ev i .loss)
   pub marked : sectionIn e (slotCount p) ev i .mark ≡ 1 → CutsProtected p b
   pub unmarked : CutsProtected p b → sectionIn e (slotCount p) ev i .mark ≡ 1
@@ -53,7 +53,7 @@ module _ (e : Edition) (p : Picture) (ev : List ℕ) where
   sectionRules i zero = []
   sectionRules i (suc k) =
       record { number = 14; holds = SectionForest e p ev i (getD (candidates p) i 0) }
-      ∷ record { number = 15; holds = Numbers e p ev i (getD (candidates p) i 0) }
+      ∷ record { number = 15; holds = SectionCost e p ev i (getD (candidates p) i 0) }
       ∷ sectionRules (suc i) k
 
   -- those of the whole evidence

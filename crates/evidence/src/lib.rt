@@ -4,11 +4,12 @@ ghost use mathlib.Core.Path.{_≡_};
 ghost use Prim.Native.Nat.{_≤_};
 ghost use Rattle.rows.specs.Rows.{slotsMax};
 ghost use Rattle.picture.specs.Layout.{edition1};
-ghost use Rattle.evidence.specs.Layout.{sectionBits, sectionBytes, sectionAt, forestAt};
+ghost use Rattle.evidence.specs.Layout.{sectionBits, sectionBytes, sectionAt, forestAt, evidenceBytes};
 ghost use Rattle.evidence.specs.Canonical.{bettered};
 ghost use Rattle.evidence.specs.Contents.{headIn, sectionIn};
 use network::Cost;
 use picture::BLOCKS_MAX;
+use picture::LOCATION_BITS;
 use picture::SLOTS_MAX;
 
 // Widths in bits, in the order of the fields.
@@ -20,11 +21,10 @@ pub const BLOCK_BITS: usize = 8;
 
 pub const COUNT_BITS: usize = 8;
 
-pub const WEIGHT_BITS: usize = 24;
+// Served weight and loss.
+pub const SUM_BITS: usize = 24;
 
 pub const MARK_BITS: usize = 8;
-
-pub const LOCATION_BITS: usize = 8;
 
 // Where the fields of the head start, and its end.
 pub const VERDICT_AT: usize = EDITION_BITS;
@@ -35,14 +35,14 @@ pub const COUNT_AT: usize = BLOCK_AT + BLOCK_BITS;
 
 pub const SERVED_AT: usize = COUNT_AT + COUNT_BITS;
 
-pub const LOSS_AT: usize = SERVED_AT + WEIGHT_BITS;
+pub const LOSS_AT: usize = SERVED_AT + SUM_BITS;
 
-pub const HEAD_BITS: usize = LOSS_AT + WEIGHT_BITS;
+pub const HEAD_BITS: usize = LOSS_AT + SUM_BITS;
 
 // The same of a section: what it has before its forest is its head.
 pub const SECTION_LOSS_AT: usize = BLOCK_BITS;
 
-pub const SECTION_MARK_AT: usize = SECTION_LOSS_AT + WEIGHT_BITS;
+pub const SECTION_MARK_AT: usize = SECTION_LOSS_AT + SUM_BITS;
 
 pub const SECTION_HEAD_BITS: usize = SECTION_MARK_AT + MARK_BITS;
 
@@ -62,9 +62,6 @@ pub const NODE_BYTES: usize = NODE_BITS / BYTE_BITS;
 pub const EVIDENCE_MAX: usize = HEAD_BYTES
     + SLOTS_MAX * NODE_BYTES
     + BLOCKS_MAX * (SECTION_HEAD_BYTES + SLOTS_MAX * NODE_BYTES);
-
-// The edition that is written and taken.
-pub const EDITION: usize = 1;
 
 // What the head says.
 pub struct Head {
@@ -121,6 +118,14 @@ pub fn forest_at(n: usize, k: usize) -> usize
     HEAD_BITS + k * section_bits(n)
 }
 
+// The length of evidence in bytes, for so many candidates.
+pub fn evidence_bytes(n: usize, count: usize) -> usize
+    requires { ⌜ (n ≤ slotsMax) × (count ≤ 255) ⌝ }
+    ensures { λ r. ⌜ r ≡ evidenceBytes edition1 n count ⌝ }
+{
+    section_at(n, count) / BYTE_BITS
+}
+
 // The head of evidence.
 pub fn head_of(ev: &[u8]) -> Head
     ensures { λ r. ⌜ r ≡ headIn (now (ev .entry)) ⌝ }
@@ -130,8 +135,8 @@ pub fn head_of(ev: &[u8]) -> Head
         verdict: bits::field(ev, VERDICT_AT, VERDICT_BITS),
         block: bits::field(ev, BLOCK_AT, BLOCK_BITS),
         count: bits::field(ev, COUNT_AT, COUNT_BITS),
-        served: bits::field(ev, SERVED_AT, WEIGHT_BITS),
-        loss: bits::field(ev, LOSS_AT, WEIGHT_BITS),
+        served: bits::field(ev, SERVED_AT, SUM_BITS),
+        loss: bits::field(ev, LOSS_AT, SUM_BITS),
     }
 }
 
@@ -143,7 +148,7 @@ pub fn section_of(ev: &[u8], n: usize, i: usize) -> Cost
     let at = section_at(n, i);
     Cost {
         block: bits::field(ev, at, BLOCK_BITS),
-        loss: bits::field(ev, at + SECTION_LOSS_AT, WEIGHT_BITS),
+        loss: bits::field(ev, at + SECTION_LOSS_AT, SUM_BITS),
         mark: bits::field(ev, at + SECTION_MARK_AT, MARK_BITS),
     }
 }

@@ -14,7 +14,7 @@ use Rattle.lists.proofs.Faults.{on-true, on-pass, on-le}
 use Rattle.lists.proofs.Sums.{total, sum-le}
 use Rattle.lists.proofs.Picks.{item-inside, sum-split}
 use Rattle.bits.proofs.Reading.{fieldAt-lt}
-use Rattle.picture.specs.Layout.{editionOf, endpointWidths}
+use Rattle.picture.specs.Layout.{editionOf, endpointWidths, weightMax}
 use Rattle.picture.specs.Picture.{Picture, Endpoint, headerOf, pictureOf, endpointAt, endpointOf}
 use Rattle.picture.specs.Faults.{pictureFault}
 use Rattle.picture.proofs.Starts.{field-first, endpoint-row}
@@ -79,16 +79,16 @@ module _ (p : Picture) (b : ℕ) where
 
 module _ (bs : List ℕ) where
   -- a weight is a field of 16 bits
-  weight-field : (q : ℕ) → endpointAt bs q .weight ≤ 65535
+  weight-field : (q : ℕ) → endpointAt bs q .weight ≤ weightMax
   unfolding endpointAt endpointWidths
   weight-field q = rw field-first (omega (arith, fieldAt-lt bs q 16))
 
   -- and 0 where the number is no endpoint's
-  pub weight-small : (c : ℕ) → weightOf (pictureOf bs) c ≤ 65535
+  pub weight-small : (c : ℕ) → weightOf (pictureOf bs) c ≤ weightMax
   unfolding weightOf pictureOf endpointOf endpointCount
-  weight-small c = ⊎-elim inside (λ e. subst (λ (x : Endpoint). x .weight ≤ 65535) (sym e) zero-le) (item-inside (pictureOf bs .endpoints) c _)
+  weight-small c = ⊎-elim inside (λ e. subst (λ (x : Endpoint). x .weight ≤ weightMax) (sym e) zero-le) (item-inside (pictureOf bs .endpoints) c _)
     where
-      inside : (1 ≤ c) × (c ≤ endpointCount (pictureOf bs)) → endpointOf (pictureOf bs) c .weight ≤ 65535
+      inside : (1 ≤ c) × (c ≤ endpointCount (pictureOf bs)) → endpointOf (pictureOf bs) c .weight ≤ weightMax
       inside h = rw (endpoint-row (editionOf bs) (headerOf bs) bs c (h .0) (omega (arith, endpoints-counted bs))) (weight-field _)
 
   -- at most 200 endpoints: 200 * 65535 < 2 ^ 24
@@ -97,7 +97,7 @@ module _ (bs : List ℕ) where
   weights-small z f =
       omega (
         arith,
-        sum-le (λ c. on (f c) (weightOf (pictureOf bs) c)) 65535 1 (endpointCount (pictureOf bs)) (λ c. on-le (f c) _ 65535 (λ t. weight-small c)),
+        sum-le (λ c. on (f c) (weightOf (pictureOf bs) c)) weightMax 1 (endpointCount (pictureOf bs)) (λ c. on-le (f c) _ weightMax (λ t. weight-small c)),
         endpoints-counted bs,
         accepted-kept bs z .counts .endpoints-most,
       )

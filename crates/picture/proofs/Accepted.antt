@@ -28,9 +28,9 @@ module _ (bs : List ℕ) where
   p : Picture
   p = pictureOf bs
 
-  pub judged : Judged (rules bs) (pictureFault bs)
+  pub picture-judged : Judged (rules bs) (pictureFault bs)
   unfolding rules rulesWith pictureFault faultsWith bodyFaults headerOf pictureOf e h p
-  judged =
+  picture-judged =
       judge-test _ _ (ltb (length bs) leastBytes) _ (λ z. absurd (omega arith)) (nltb→le (length bs) leastBytes) (λ t l. absurd (omega (arith, ltb→lt (length bs) leastBytes t)))
       (judge-right _ _ (eqb (fieldIn bs (headerWidths e) 0 0) (e .number)) _ (λ z. absurd (omega arith)) (eqb→eq _ _) (eq-T _ _)
       (judge-right _ _ (sizesRight e h) _ (λ z. absurd (omega arith)) (right-sizes e h) (sizes-right e h)
@@ -49,10 +49,10 @@ module _ (bs : List ℕ) where
 
   -- accepted exactly where every rule of the layout holds
   pub accepted-holds : pictureFault bs ≡ 0 → AllHold (rules bs)
-  accepted-holds = judged-all judged numbered
+  accepted-holds = judged-all picture-judged numbered
 
   pub holds-accepted : AllHold (rules bs) → pictureFault bs ≡ 0
-  holds-accepted = all-judged judged
+  holds-accepted = all-judged picture-judged
 
   -- the same with a name for each rule
   pub accepted-kept : pictureFault bs ≡ 0 → Kept bs

@@ -52,11 +52,11 @@ module _ (e : Edition) (h : Header) where
   right-counts t =
       let t1 = and-T (leb (h .endpoints) endpointsMax) _ t in
       let t2 = and-T (leb (h .links) linksMax) (leb (h .«service_links») linksMax) (t1 .1) in
-      record { endpoints-most = leb→le _ _ (t1 .0); links-most = leb→le _ _ (t2 .0); services-most = leb→le _ _ (t2 .1) }
+      record { endpoints-most = leb→le _ _ (t1 .0); links-most = leb→le _ _ (t2 .0); service-links-most = leb→le _ _ (t2 .1) }
 
   pub counts-right : Counts h → T (countsRight h)
   unfolding countsRight
-  counts-right s = rw (le-leb _ _ (s .endpoints-most), le-leb _ _ (s .links-most), le-leb _ _ (s .services-most)) tt
+  counts-right s = rw (le-leb _ _ (s .endpoints-most), le-leb _ _ (s .links-most), le-leb _ _ (s .service-links-most)) tt
 
 pub right-limited : (h : Header) → T (sizesRight edition1 h) → T (countsRight h) → Limited h
 right-limited h s c = record { slots = right-sizes edition1 h s .slots-most; counts = right-counts edition1 h c }

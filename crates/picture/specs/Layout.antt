@@ -29,8 +29,11 @@ unfoldable pub headerWidths : Edition → List ℕ
 headerWidths e = 4 ∷ 4 ∷ e .slotsBits ∷ e .nearLimitBits ∷ 8 ∷ 12 ∷ 12 ∷ []
 
 -- a slot: state, near
+abbrev pub stateBits : ℕ
+stateBits = 2
+
 unfoldable pub slotWidths : List ℕ
-slotWidths = 2 ∷ 1 ∷ []
+slotWidths = stateBits ∷ 1 ∷ []
 
 -- an endpoint (01: cab): weight, protected
 unfoldable pub endpointWidths : List ℕ
@@ -73,6 +76,10 @@ pictureMax = 8522
 -- a state is 0 (held), 1 (recoverable) or 2 (freed)
 abbrev pub stateMax : ℕ
 stateMax = 2
+
+-- a weight is a number of 16 bits
+abbrev pub weightMax : ℕ
+weightMax = 65535
 
 -- ---- where each part starts, in bits, and the size in bytes
 

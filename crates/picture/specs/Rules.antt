@@ -23,7 +23,7 @@ pub record Sizes (e : Edition) (h : Header) : Type 0 where
 pub record Counts (h : Header) : Type 0 where
   pub endpoints-most : h .endpoints ≤ endpointsMax
   pub links-most : h .links ≤ linksMax
-  pub services-most : h .«service_links» ≤ linksMax
+  pub service-links-most : h .«service_links» ≤ linksMax
 
 -- "For each slot 1 to n: state 2 (0 held, 1 recoverable, 2 freed)"
 pub record States (n : ℕ) (p : Picture) : Type 0 where

@@ -5,7 +5,7 @@ ghost use Prim.Native.Nat.{_+_, _-_, _*_, _≤_, _<_};
 ghost use lib.ListN.{length, getD};
 ghost use Rattle.bits.specs.Bits.{putField};
 ghost use Rattle.lists.specs.Lists.{first, sum, outcome};
-ghost use Rattle.picture.specs.Layout.{edition1, slotWidths, slotsAt, sizeOf};
+ghost use Rattle.picture.specs.Layout.{edition1, stateBits, slotWidths, slotsAt, sizeOf};
 ghost use Rattle.picture.specs.Picture.{headerIn, headerOf, linkAt, pictureWith, slotOf, endpointOf};
 ghost use Rattle.picture.specs.Faults.{sizesRight, countsRight, stateFault, linkFault, serviceLinkFault, endRight, bodyFaults, pictureFault};
 ghost use Rattle.picture.specs.Answers.{reading, headerValues, readingNumbers};
@@ -42,17 +42,17 @@ pub const ENDPOINT_BITS: usize = 8;
 // Where the fields of the header start.
 pub const BLOCK_SIZE_AT: usize = EDITION_BITS;
 
-pub const SLOTS_AT: usize = BLOCK_SIZE_AT + BLOCK_SIZE_BITS;
+pub const SLOT_COUNT_AT: usize = BLOCK_SIZE_AT + BLOCK_SIZE_BITS;
 
-pub const NEAR_LIMIT_AT: usize = SLOTS_AT + SLOTS_BITS;
+pub const NEAR_LIMIT_AT: usize = SLOT_COUNT_AT + SLOTS_BITS;
 
-pub const ENDPOINTS_AT: usize = NEAR_LIMIT_AT + NEAR_LIMIT_BITS;
+pub const ENDPOINT_COUNT_AT: usize = NEAR_LIMIT_AT + NEAR_LIMIT_BITS;
 
-pub const LINKS_AT: usize = ENDPOINTS_AT + ENDPOINTS_BITS;
+pub const LINK_COUNT_AT: usize = ENDPOINT_COUNT_AT + ENDPOINTS_BITS;
 
-pub const SERVICE_LINKS_AT: usize = LINKS_AT + LINKS_BITS;
+pub const SERVICE_LINK_COUNT_AT: usize = LINK_COUNT_AT + LINKS_BITS;
 
-pub const HEADER_BITS: usize = SERVICE_LINKS_AT + LINKS_BITS;
+pub const HEADER_BITS: usize = SERVICE_LINK_COUNT_AT + LINKS_BITS;
 
 // A row of each of the four lists.
 pub const SLOT_ROW: usize = STATE_BITS + NEAR_BITS;
@@ -132,11 +132,11 @@ fn header_of(s: &[u8]) -> Header
 {
     Header {
         block_size: bits::field(s, BLOCK_SIZE_AT, BLOCK_SIZE_BITS),
-        slots: bits::field(s, SLOTS_AT, SLOTS_BITS),
+        slots: bits::field(s, SLOT_COUNT_AT, SLOTS_BITS),
         near_limit: bits::field(s, NEAR_LIMIT_AT, NEAR_LIMIT_BITS),
-        endpoints: bits::field(s, ENDPOINTS_AT, ENDPOINTS_BITS),
-        links: bits::field(s, LINKS_AT, LINKS_BITS),
-        service_links: bits::field(s, SERVICE_LINKS_AT, LINKS_BITS),
+        endpoints: bits::field(s, ENDPOINT_COUNT_AT, ENDPOINTS_BITS),
+        links: bits::field(s, LINK_COUNT_AT, LINKS_BITS),
+        service_links: bits::field(s, SERVICE_LINK_COUNT_AT, LINKS_BITS),
     }
 }
 
@@ -216,7 +216,7 @@ pub fn slot_state(s: &[u8], h: Header, v: usize) -> usize
 // The state of slot v becomes this one: its two bits only.
 pub fn put_state(s: &mut [u8], h: Header, v: usize, state: usize)
     requires { ⌜ Limited h × (1 ≤ v) × (v ≤ h .slots) × (sizeOf edition1 h ≤ length (now s)) ⌝ }
-    ensures { λ _. ⌜ now (s .exit) ≡ putField (now (s .entry)) (slotsAt edition1 + (v - 1) * sum slotWidths) 2 state ⌝ }
+    ensures { λ _. ⌜ now (s .exit) ≡ putField (now (s .entry)) (slotsAt edition1 + (v - 1) * sum slotWidths) stateBits state ⌝ }
 {
     bits::put_field(s, HEADER_BITS + (v - 1) * SLOT_ROW, STATE_BITS, state);
 }

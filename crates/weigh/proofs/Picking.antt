@@ -10,6 +10,7 @@ use Rattle.lists.specs.Lists.{range, on, sum, any}
 use Rattle.lists.proofs.Ends.{sum-more, any-more}
 use Rattle.lists.proofs.Tests.{and-T, T-and}
 use Rattle.rows.specs.Rows.{marked, Minus, Meet}
+use Rattle.picture.specs.Layout.{weightMax}
 use Rattle.weigh.specs.Sums.{Meets, LostRow, LostBetween, weightBetween, markBetween}
 
 -- two rows have a mark in common or they do not
@@ -39,7 +40,7 @@ module _ (row before after gone : List ℕ) (m : Minus before after gone) where
 -- the endpoints from 1 up to c are looked at
 pub record Picking (table : List (List ℕ)) (weights guarded before after : List ℕ) (weight mark c : ℕ) : Type 0 where
   pub some : 1 ≤ c
-  pub small : weight ≤ (c - 1) * 65535
+  pub small : weight ≤ (c - 1) * weightMax
   pub weighs : (f g : ℕ → Bool) → Meets table before f → Meets table after g → weight ≡ weightBetween weights (c - 1) f g
   pub marks : (f g : ℕ → Bool) → Meets table before f → Meets table after g → mark ≡ markBetween guarded (c - 1) f g
 
@@ -49,7 +50,7 @@ module _ (table : List (List ℕ)) (weights guarded before after : List ℕ) whe
   picking-begun = record { some = omega arith; small = omega arith; weighs = λ f g a b. refl; marks = λ f g a b. refl }
 
   -- one endpoint more: it is lost or it is not
-  pub picking-next : (weight mark weight′ mark′ c : ℕ) (lost : Bool) → Picking table weights guarded before after weight mark c → getD weights c 0 ≤ 65535
+  pub picking-next : (weight mark weight′ mark′ c : ℕ) (lost : Bool) → Picking table weights guarded before after weight mark c → getD weights c 0 ≤ weightMax
       → LostRow (getD table c []) before after lost → weight′ ≡ weight + on lost (getD weights c 0) → on (marked guarded c && lost) 1 + on (not (marked guarded c && lost)) mark ≡ mark′
       → Picking table weights guarded before after weight′ mark′ (c + 1)
   unfolding weightBetween markBetween
@@ -73,7 +74,7 @@ module _ (table : List (List ℕ)) (weights guarded before after : List ℕ) whe
       last : 1 + (c - 1) ≡ c
       last = omega (arith, p .some)
 
-      more : (b : Bool) → on b (getD weights c 0) ≤ 65535
+      more : (b : Bool) → on b (getD weights c 0) ≤ weightMax
       more true = unfold on in h
       more false = unfold on in omega arith
 

@@ -6,7 +6,7 @@ use Prim.Native.Nat.{ℕ, suc, _≤_}
 use lib.ListN.{length, getD}
 use Rattle.lists.specs.Lists.{range, on, sum, any}
 use Rattle.rows.specs.Rows.{marked, Meet}
-use Rattle.picture.specs.Layout.{endpointsMax}
+use Rattle.picture.specs.Layout.{endpointsMax, weightMax}
 
 -- a row has a mark in common with one row and none with another
 pub record LostRow (row before after : List ℕ) (lost : Bool) : Type 0 where
@@ -29,7 +29,7 @@ pub record LostBetween (table : List (List ℕ)) (weights guarded : List ℕ) (d
   pub weighs : (f g : ℕ → Bool) → Meets table before f → Meets table after g → weight ≡ weightBetween weights d f g
   pub marks : (f g : ℕ → Bool) → Meets table before f → Meets table after g → mark ≡ markBetween guarded d f g
 
--- each weight is one of 16 bits
+-- no weight is above the limit
 pub record Small (weights : List ℕ) : Type 0 where
   pub many : length weights ≡ suc endpointsMax
-  pub weight : (c : ℕ) → getD weights c 0 ≤ 65535
+  pub weight : (c : ℕ) → getD weights c 0 ≤ weightMax

@@ -106,7 +106,7 @@ unfolding headerFields headerFor headerWidths headerValues fieldsOf Fit pictureF
 header-fits l r near =
     let s = r .sizes in
     let c = r .counts in
-    (omega arith, (omega (arith, s .size-most), (omega (arith, s .slots-most), (near, (omega (arith, c .endpoints-most), (omega (arith, c .links-most), (omega (arith, c .services-most), tt)))))))
+    (omega arith, (omega (arith, s .size-most), (omega (arith, s .slots-most), (near, (omega (arith, c .endpoints-most), (omega (arith, c .links-most), (omega (arith, c .service-links-most), tt)))))))
 
 module _ (l : Lists) (t : Typed l) (r : Right l) where
   abbrev p : Picture

@@ -19,12 +19,12 @@ use picture::BLOCK_SIZE_BITS;
 use picture::EDITION;
 use picture::EDITION_BITS;
 use picture::ENDPOINT_BITS;
+use picture::ENDPOINT_COUNT_AT;
 use picture::ENDPOINT_ROW;
-use picture::ENDPOINTS_AT;
 use picture::ENDPOINTS_BITS;
 use picture::HEADER_BITS;
 use picture::Header;
-use picture::LINKS_AT;
+use picture::LINK_COUNT_AT;
 use picture::LINKS_BITS;
 use picture::LOCATION_BITS;
 use picture::Link;
@@ -32,9 +32,9 @@ use picture::NEAR_BITS;
 use picture::NEAR_LIMIT_AT;
 use picture::NEAR_LIMIT_BITS;
 use picture::PROTECTED_BITS;
-use picture::SERVICE_LINKS_AT;
+use picture::SERVICE_LINK_COUNT_AT;
+use picture::SLOT_COUNT_AT;
 use picture::SLOT_ROW;
-use picture::SLOTS_AT;
 use picture::SLOTS_BITS;
 use picture::STATE_BITS;
 use picture::WEIGHT_BITS;
@@ -268,11 +268,11 @@ fn put_header(buf: &mut [u8], h: Header)
 {
     bits::put_field(buf, 0, EDITION_BITS, EDITION);
     bits::put_field(buf, BLOCK_SIZE_AT, BLOCK_SIZE_BITS, h.block_size);
-    bits::put_field(buf, SLOTS_AT, SLOTS_BITS, h.slots);
+    bits::put_field(buf, SLOT_COUNT_AT, SLOTS_BITS, h.slots);
     bits::put_field(buf, NEAR_LIMIT_AT, NEAR_LIMIT_BITS, h.near_limit);
-    bits::put_field(buf, ENDPOINTS_AT, ENDPOINTS_BITS, h.endpoints);
-    bits::put_field(buf, LINKS_AT, LINKS_BITS, h.links);
-    bits::put_field(buf, SERVICE_LINKS_AT, LINKS_BITS, h.service_links);
+    bits::put_field(buf, ENDPOINT_COUNT_AT, ENDPOINTS_BITS, h.endpoints);
+    bits::put_field(buf, LINK_COUNT_AT, LINKS_BITS, h.links);
+    bits::put_field(buf, SERVICE_LINK_COUNT_AT, LINKS_BITS, h.service_links);
 }
 
 // The picture of lists that keep the rules, over the front of a buffer that is long enough.

@@ -8,7 +8,6 @@ use Rattle.picture.proofs.Facts.{read-sizes}
 use Rattle.network.specs.Tests.{candidates}
 use Rattle.network.proofs.Candidates.{marked-candidates}
 use Rattle.network.proofs.Blocks.{read-block-size, read-blocks, read-slots}
-use Rattle.evidence.specs.Layout.{evidenceBytes}
 use Rattle.evidence.specs.Calls.{lengthFor}
 use Rattle.evidence.proofs.Fields.{candidates-few}
 use borrow.Author.Needs.{needs}
@@ -36,19 +35,19 @@ count-candidates-requires c κs =
     let h = start c .args .h in
     omega (arith, read-sizes _ _ (start c .pre) .slots-most, div-mul-le-self (h .slots) (h .«block_size»))
 
-section-at-requires : tie.Need-section-at-requires
-section-at-requires c κs =
+evidence-bytes-requires : tie.Need-evidence-bytes-requires
+evidence-bytes-requires c κs =
     let r = start (c .before) .pre in
     (read-sizes _ _ r .slots-most, omega (arith, counted c, candidates-few _ (r .accepted)))
 
 returns : tie.Need-returns
-unfolding lengthFor evidenceBytes
+unfolding lengthFor
 returns c =
     let k = c .before in
     record {
       slots = k .before .before .before .slot-rows .ensures;
       counted = counted k;
-      long = rw (c .section-at .ensures, ← read-slots _ _ (start (k .before) .pre), counted k);
+      long = rw (c .evidence-bytes .ensures, ← read-slots _ _ (start (k .before) .pre), counted k);
     }
 
 pub make-plan-spec : {M : Type 1} → statement M
@@ -58,5 +57,5 @@ make-plan-spec =
     slot-rows-requires
     div-count-candidates
     count-candidates-requires
-    section-at-requires
+    evidence-bytes-requires
     returns)

@@ -5,7 +5,7 @@ use native.Mathlib.Omega.{arith}
 use Rattle.packing.specs.Packing.{fieldsOf}
 use Rattle.packing.specs.Holding.{span}
 use Rattle.packing.proofs.Putting.{put-behind, put-same, puts-none, puts-next}
-use Rattle.evidence.specs.Layout.{sectionWidths}
+use Rattle.evidence.specs.Layout.{sectionHeadWidths}
 use Rattle.evidence.proofs.Places.{section-bytes}
 use Rattle.choose.specs.Writing.{arraySection}
 use borrow.Author.Needs.{needs}
@@ -50,7 +50,7 @@ same-length : tie.Need-same-length
 same-length c = search needs
 
 returns : tie.Need-returns
-unfolding arraySection sectionWidths fieldsOf span
+unfolding arraySection sectionHeadWidths fieldsOf span
 returns c =
     let d = c .before .before in
     let k = d .before .before .before .before in
