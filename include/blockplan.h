@@ -2,17 +2,16 @@
  * blockplan: which flash block of a map relay to give up, with evidence that anyone can check.
  *
  * A picture is the state of one relay's network as bytes. Evidence says which block was chosen and why. The library is proved: on every input
- * each call ends, reads and writes inside its buffers and lists only, and gives the answer that the scope document ("01" below) fixes. Link with
- * libblockplan_c.a (x86-64, System V calls), which `rt staticlib blockplan_c` makes; besides the six calls it names only memcpy and memset.
- *
- * docs/FORMAT.md has formats, words and numbers in full, with an example byte by byte.
+ * each call ends, reads and writes inside its buffers and lists only, and gives the answer that docs/FORMAT.md fixes. That page has formats, words
+ * and numbers in full, with an example byte by byte; it follows the scope document, "01" below. Link with libblockplan_c.a (x86-64, System V
+ * calls), which `rt staticlib blockplan_c` makes; besides the six calls it names only memcpy and memset.
  *
  * WORDS. Location 0 is the origin (01: the office); locations 1 to n are slots, in blocks of so many slots each, counted from 0. Links lead from
  * location to location, service links (01: serving links) from a location to an endpoint (01: a cab). A slot is held, recoverable or freed; near
  * slots lie in the small fast store. A chain leads from the origin over links through held slots; an endpoint is served if a chain ends at a location
  * with a service link to it. A block cuts the endpoints that are served, and would not be without its slots.
  *
- * ANSWERS. 0 or a length is success. A refusal is minus one of the numbers below, that of the first fault in 01's order; then no byte of
+ * ANSWERS. 0 or a length is success. A refusal is minus one of the numbers below, that of the first fault in the page's order; then no byte of
  * any buffer has changed.
  *
  * WHAT A CALLER OWES, and no call can test:
