@@ -1,5 +1,5 @@
 -- `put_state` writes a slot's state. Assumes nothing.
-use Prim.Native.Nat.{ℕ, _+_, _-_, _*_, _^_, _≤_, _<_}
+use Prim.Native.Nat.{ℕ, _+_, _*_, _^_, _≤_, _<_}
 use native.Mathlib.Omega.{arith}
 use Rattle.lists.specs.Lists.{sum}
 use Rattle.picture.specs.declared.Header.{Header}
@@ -10,11 +10,10 @@ use borrow.Author.Needs.{needs}
 use Rattle.picture.proofs.put_state.Statement.{statement}
 use Rattle.picture.proofs.put_state.Tie as tie
 
--- the two bits of a slot's state lie within the bytes
-state-fits : (h : Header) → Limited h → (v n : ℕ) → 1 ≤ v → v ≤ h .slots → sizeOf edition1 h ≤ n
-    → (slotsAt edition1 + (v - 1) * sum slotWidths + 2 ≤ n * 8) × (2 ≤ 32) × (slotsAt edition1 + (v - 1) * sum slotWidths < 2 ^ 32)
+-- a slot's fields lie within the bytes
+slot-fits : (h : Header) → Limited h → (v n : ℕ) → 1 ≤ v → v ≤ h .slots → sizeOf edition1 h ≤ n → (slotsAt edition1 + v * sum slotWidths ≤ n * 8) × (slotsAt edition1 + v * sum slotWidths < 2 ^ 32)
 unfolding endpointsAt slotsAt headerWidths slotWidths sum
-state-fits h l v n some most long = omega (arith, ordered h l, rounded h)
+slot-fits h l v n some most long = omega (arith, ordered h l, rounded h)
 
 sub-put-field : tie.Need-sub-put-field
 sub-put-field c = search needs
@@ -29,7 +28,7 @@ put-field-requires : tie.Need-put-field-requires
 unfolding slotsAt headerWidths slotWidths sum
 put-field-requires c κs =
     let p = c .before .before .pre in
-    state-fits _ (p .0) _ _ (p .1) (p .2) (p .3)
+    omega (arith, p .1, slot-fits _ (p .0) _ _ (p .1) (p .2) (p .3))
 
 same-length : tie.Need-same-length
 same-length c = search needs
