@@ -19,13 +19,13 @@ use Rattle.evidence.specs.declared.Head.{Head}
 use Rattle.evidence.specs.declared.Choice.{Choice}
 use Rattle.evidence.specs.Canonical.{noChoice, noCost, bettered, least}
 use Rattle.evidence.specs.Contents.{headIn, sectionIn}
-use Rattle.evidence.specs.Checks.{verdictRight}
+use Rattle.evidence.specs.Checks.{isNamed, verdictRight}
 use Rattle.evidence.proofs.Least.{least-none-yet, least-more}
 use Rattle.checker.specs.Verdict.{stated}
 
--- a section of the block and the loss that the head states, without a mark
+-- a section is the one that the head names
 abbrev pub names : Head → Cost → Bool
-names h w = eqb (w .block) (h .block) && (eqb (w .mark) 0 && eqb (w .loss) (h .loss))
+names h = isNamed (h .block) (h .loss)
 
 module _ (n : ℕ) (ev : List ℕ) (count : ℕ) where
   pub stated-length : length (stated n ev count) ≡ count

@@ -1,17 +1,15 @@
 // The verdict that the sections of evidence imply, and the section that it names.
 ghost use mathlib.Core.Path.{_≡_};
-ghost use mathlib.Core.Bool.{_&&_};
 ghost use Prim.Native.Nat.{_≤_};
-ghost use lib.Dec.{eqb};
 ghost use Rattle.rows.specs.Rows.{slotsMax};
-ghost use Rattle.evidence.specs.Checks.{verdictRight};
+ghost use Rattle.evidence.specs.Checks.{isNamed, verdictRight};
 ghost use Rattle.checker.specs.Verdict.{stated, sectionNamed};
 use evidence::Choice;
 use network::Cost;
 
 // Whether a section is of the block that the head names, admissible, and of the loss that the head states.
 fn is_named(w: Cost, block: usize, loss: usize) -> bool
-    ensures { λ r. ⌜ r ≡ (eqb (w .block) block && (eqb (w .mark) 0 && eqb (w .loss) loss)) ⌝ }
+    ensures { λ r. ⌜ r ≡ isNamed block loss w ⌝ }
 {
     if w.block != block {
         return false;

@@ -22,7 +22,7 @@ use Rattle.evidence.specs.Layout.{evidenceBytes}
 use Rattle.evidence.specs.declared.Choice.{Choice}
 use Rattle.evidence.specs.Canonical.{noCost, least, weighings}
 use Rattle.evidence.specs.Contents.{headIn, sectionIn, sectionForest}
-use Rattle.evidence.specs.Checks.{forestRight, formRight, verdictRight}
+use Rattle.evidence.specs.Checks.{forestRight, formRight, verdictRight, isNamed}
 use Rattle.evidence.specs.Rules.{Form, SectionCost, Verdict, chosen, none}
 use Rattle.lists.proofs.Every.{all-range, range-all}
 use Rattle.evidence.proofs.Least.{Chosen, Nothing, least-right, least-none, none-least}
@@ -109,10 +109,6 @@ module _ {p : Picture} (n : Named p) (e : Edition) (ev : List ℕ) (i b : ℕ) w
   )
 
 -- ---- 16: the verdict
-
--- the test that a weighing is the one named
-isNamed : ℕ → ℕ → Cost → Bool
-isNamed b l w = eqb (w .block) b && (eqb (w .mark) 0 && eqb (w .loss) l)
 
 -- the test of the verdict, by what the head says
 verdictTest : List Cost → ℕ → ℕ → ℕ → Bool

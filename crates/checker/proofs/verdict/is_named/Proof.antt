@@ -1,15 +1,19 @@
 -- `is_named` compares with what the head names. Assumes nothing.
 use borrow.Author.Tests.{eq-eqb, ne-eqb}
+use Rattle.evidence.specs.Checks.{isNamed}
 use Rattle.checker.proofs.verdict.is_named.Statement.{statement}
 use Rattle.checker.proofs.verdict.is_named.Tie as tie
 
 returns : tie.Need-returns
+unfolding isNamed
 returns c = rw (ne-eqb _ _ (c .if1 .taken))
 
 returns-2 : tie.Need-returns-2
+unfolding isNamed
 returns-2 c = rw (eq-eqb _ _ (c .before .before .if1 .left), ne-eqb _ _ (c .if2 .taken))
 
 returns-3 : tie.Need-returns-3
+unfolding isNamed
 returns-3 c = rw (eq-eqb _ _ (c .before .before .before .if1 .left), eq-eqb _ _ (c .before .if2 .left))
 
 pub is-named-spec : {M : Type 1} → statement M
