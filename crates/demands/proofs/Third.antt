@@ -2,10 +2,10 @@
 use mathlib.Core.Path.{_≡_, refl, sym, ap, _∙_}
 use mathlib.Core.Logic.{_≢_}
 use mathlib.Core.List.{List, [], _∷_}
-use Prim.Native.Nat.{ℕ, zero, suc, _≤_}
+use Prim.Native.Nat.{ℕ, _≤_}
 use native.Mathlib.Omega.{arith}
-use lib.ListN.{getD}
 use Rattle.lists.specs.Lists.{outcome}
+use Rattle.lists.proofs.Answers.{outcome-zero}
 use Rattle.lists.proofs.Sums.{total-one}
 use Rattle.picture.specs.Picture.{Picture, pictureOf}
 use Rattle.picture.specs.Faults.{pictureFault}
@@ -55,12 +55,7 @@ checks bs ev z = record { number = checking-numbers bs ev ∙ ap (λ (k : ℕ). 
 
 -- an answer of 0 is of evidence without a fault
 checked : (bs ev : List ℕ) → checkingNumbers (checking bs ev) ≡ 0 ∷ [] → checkFault bs ev ≡ 0
-unfolding outcome
-checked bs ev e = none-told (checkFault bs ev) (sym (checking-numbers bs ev) ∙ e)
-  where
-    none-told : (k : ℕ) → outcome k [] ≡ 0 ∷ [] → k ≡ 0
-    none-told zero q = refl
-    none-told (suc k) q = ap (λ (l : List ℕ). getD l 0 0) q
+checked bs ev e = outcome-zero (checkFault bs ev) (sym (checking-numbers bs ev) ∙ e) .0
 
 evicts : (bs : List ℕ) (b : ℕ) → actFault Evict bs b ≡ 0 → Evicts bs b
 unfolding outcome acting actingOf

@@ -7,6 +7,12 @@ use Prim.Native.Nat.{ℕ, zero, suc}
 use native.Mathlib.Omega.{arith}
 use Rattle.lists.specs.Lists.{outcome}
 
+-- an answer of 0 is of no fault, and its values are told
+pub outcome-zero : (k : ℕ) {vs ws : List ℕ} → outcome k vs ≡ 0 ∷ ws → (k ≡ 0) × (vs ≡ ws)
+unfolding outcome
+outcome-zero zero e = (refl, cc)
+outcome-zero (suc k) e = let z : suc k ≡ 0 = cc in absurd (omega arith)
+
 module _ {R : Type 0} (answer refused : ℕ → R) (refuses : (k : ℕ) → answer (suc k) ≡ refused (suc k)) where
   -- a number that is not 0 and is that of the first fault is the refusal's
   pub answer-refused : {j : ℕ} (k : ℕ) → k ≢ 0 → k ≡ j → refused k ≡ answer j
