@@ -1,13 +1,13 @@
 -- Evidence passes the check exactly where it keeps the rules, and the rules as a record. Assumes nothing.
 use mathlib.Core.Path.{_≡_, subst}
-use mathlib.Core.List.{List, [], _∷_}
+use mathlib.Core.List.{List}
 use Prim.Native.Nat.{ℕ, zero, suc, _+_, _≤_, _<_}
 use native.Mathlib.Omega.{arith}
 use native.Mathlib.Decide.{ℕ-discrete}
 use lib.ListN.{length, getD}
 use Rattle.lists.specs.Rules.{Rule, AllHold, none, more}
 use Rattle.lists.proofs.Faults.{Numbered, judged-all, all-judged}
-use Rattle.lists.proofs.Rules.{numbered-both, hold-left, hold-right, hold-both}
+use Rattle.lists.proofs.Rules.{numbered-both, hold-one, hold-left, hold-right, hold-both}
 use Rattle.graph.specs.Kept.{ForestKept}
 use Rattle.picture.specs.Layout.{Edition, editionOf}
 use Rattle.picture.specs.Picture.{Picture, pictureOf}
@@ -70,9 +70,6 @@ module _ (e : Edition) (p : Picture) (ev : List ℕ) where
       let here = s i (omega arith) (omega arith) in
       more (here .forest) (more (here .numbers) (section-holds (suc i) k (λ j l h. s j (omega arith) (omega arith))))
 
-last : {r : Rule} → AllHold (r ∷ []) → r .holds
-last (more v none) = v
-
 module _ (bs ev : List ℕ) where
   sections : List Rule
   sections = sectionRules (editionOf bs) (pictureOf bs) ev 0 (length (candidates (pictureOf bs)))
@@ -86,7 +83,7 @@ module _ (bs ev : List ℕ) where
         forest = t;
         served = w;
         sections = λ i h. holds-section (editionOf bs) (pictureOf bs) ev 0 (length (candidates (pictureOf bs))) (hold-left sections _ r) i (omega arith) (omega arith);
-        verdict = last (hold-right sections _ r);
+        verdict = hold-one (hold-right sections _ r);
       }
 
   holds-passes : AllHold (checkRules bs ev) → Passes bs ev

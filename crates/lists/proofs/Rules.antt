@@ -26,7 +26,10 @@ pub numbered-both : (rs ss : List Rule) → Numbered rs → Numbered ss → Numb
 numbered-both [] ss a b = b
 numbered-both (r ∷ rs) ss a b = (a .0, numbered-both rs ss (a .1) b)
 
--- ---- all rules of two lists
+-- ---- all rules of one, and of two lists
+
+pub hold-one : {r : Rule} → AllHold (r ∷ []) → r .holds
+hold-one (more h none) = h
 
 pub hold-left : (rs ss : List Rule) → AllHold (rs ++ ss) → AllHold rs
 hold-left [] ss a = none

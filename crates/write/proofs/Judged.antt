@@ -1,6 +1,6 @@
 -- The number that lists are answered with is that of the first rule that they break. Assumes nothing.
 use mathlib.Core.Path.{_≡_, refl}
-use mathlib.Core.List.{List, [], _∷_, _++_}
+use mathlib.Core.List.{List, [], _++_}
 use Prim.Native.Nat.{ℕ, _≤_}
 use native.Mathlib.Omega.{arith}
 use lib.Dec.{eqb, ltb, eqb→eq, ltb→lt, nltb→le}
@@ -9,6 +9,7 @@ use Rattle.lists.specs.Lists.{first}
 use Rattle.lists.specs.Rules.{Rule, Judged, AllHold, more, none}
 use Rattle.lists.proofs.Tests.{eq-T}
 use Rattle.lists.proofs.Faults.{judge-test, judge-right, judge-none, judged-all, all-judged, Numbered}
+use Rattle.lists.proofs.Rules.{hold-one}
 use Rattle.picture.specs.declared.Header.{Header}
 use Rattle.picture.specs.Layout.{edition1}
 use Rattle.picture.specs.Picture.{Picture}
@@ -19,10 +20,6 @@ use Rattle.write.specs.Columns.{Lists, pictureFrom, headerFor}
 use Rattle.write.specs.Rules.{sizeFor, handedRules, writeRules}
 use Rattle.write.specs.Faults.{handedFaults, writeFault}
 use Rattle.write.specs.Inner.{Right}
-
--- one rule alone
-only : {r : Rule} → AllHold (r ∷ []) → r .holds
-only (more h none) = h
 
 module _ (l : Lists) where
   abbrev p : Picture
@@ -89,7 +86,7 @@ module _ (l : Lists) where
   unfolding writeRules
   write-right buf z =
       let a = hold-right _ (written-holds buf z) in
-      (a .0, only (a .1))
+      (a .0, hold-one (a .1))
 
   pub right-write : (buf : List ℕ) → Right l → sizeFor l ≤ length buf → writeFault l buf ≡ 0
   unfolding writeRules
