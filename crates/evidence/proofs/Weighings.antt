@@ -5,7 +5,7 @@ use Prim.Native.Nat.{ℕ, _≤_, _<_}
 use native.Mathlib.Omega.{arith}
 use native.Mathlib.Decide.{ℕ-discrete}
 use lib.ListN.{length, getD, length-map}
-use Rattle.lists.proofs.Picks.{map-at}
+use Rattle.lists.proofs.Picks.{Placed, map-at}
 use Rattle.picture.specs.Picture.{Picture}
 use Rattle.network.specs.Words.{blockCount, Candidate, CutsProtected, Admissible, Named}
 use Rattle.network.specs.Tests.{weighed, candidates}
@@ -24,14 +24,8 @@ module _ (p : Picture) where
   unfolding weighings
   weighing-at i h = map-at (weighed p) _ 0 (candidates p) i h
 
-  -- the weighing of block b stands at some place
-  pub record Weighs (b : ℕ) : Type 0 where
-    pub at : ℕ
-    pub within : at < length (weighings p)
-    pub same : getD (weighings p) at noCost ≡ weighed p b
-
-  -- so does that of each candidate, where the candidates are blocks of the picture
-  pub candidate-weighing : ((b : ℕ) → Candidate p b → b < blockCount p) → {b : ℕ} → Candidate p b → Weighs b
+  -- that of each candidate is in it, where the candidates are blocks of the picture
+  pub candidate-weighing : ((b : ℕ) → Candidate p b → b < blockCount p) → {b : ℕ} → Candidate p b → Placed noCost (weighings p) (weighed p b)
   candidate-weighing below {b} c =
       let r = candidates-all p (below b c) c in
       record { at = r .at; within = omega (arith, r .within, weighings-length); same = weighing-at (r .at) (r .within) ∙ ap (weighed p) (r .same) }
