@@ -3,25 +3,24 @@ use mathlib.Core.Path.{_≡_, refl, sym, ap, _∙_}
 use mathlib.Core.Bool.{true, false, not, Bool·not-not}
 use mathlib.Core.Logic.{_≢_}
 use mathlib.Core.List.{List, [], _∷_, _++_, map}
-use Prim.Native.Nat.{ℕ, suc, _<_}
+use Prim.Native.Nat.{ℕ, suc}
 use native.Mathlib.Omega.{arith}
 use lib.Dec.{eqb}
 use lib.ListN.{length, getD}
 use Rattle.lists.specs.Lists.{range, on, first, outcome}
 use Rattle.lists.proofs.Answers.{answer-refused, answer-numbers, answer-refusals}
-use Rattle.lists.proofs.Ranges.{length-range, map-shift, range-made}
+use Rattle.lists.proofs.Ranges.{length-range, map-shift}
 use Rattle.lists.proofs.Faults.{on-zero, first-zero, first-in, stop-at, first-map-none}
 use Rattle.picture.specs.Layout.{edition1}
 use Rattle.picture.specs.Picture.{Picture, pictureOf}
 use Rattle.picture.specs.Faults.{pictureFault}
 use Rattle.network.specs.Words.{slotCount, isHeld}
-use Rattle.network.specs.Tests.{servedWeight, candidates}
-use Rattle.network.proofs.Weights.{weighed-block}
-use Rattle.evidence.specs.Canonical.{noCost, weighings}
+use Rattle.network.specs.Tests.{weighed, servedWeight, candidates}
+use Rattle.evidence.specs.Canonical.{weighings}
 use Rattle.evidence.specs.Contents.{headIn, sectionIn, firstForest}
 use Rattle.evidence.specs.Checks.{forestRight, formRight, sectionFault, verdictRight, checkFault}
 use Rattle.evidence.proofs.Judging.{numbersTest, test-numbers, right-form}
-use Rattle.evidence.proofs.Weighings.{weighings-length, weighing-at}
+use Rattle.evidence.proofs.Weighings.{weighings-length, weighing-at, weighings-stated}
 use Rattle.checker.specs.declared.Checking.{Checking}
 use Rattle.checker.specs.declared.Checking.the-variants.{Passed, Refused}
 use Rattle.checker.specs.Answers.{checkingOf, checking, checkingNumbers}
@@ -68,22 +67,16 @@ module _ (bs ev : List ℕ) where
 
       module _ (none : 0 ≡ partsFault bs ev) where
         -- what the sections state is what the candidates weigh
-        section-right : (i : ℕ) → i < length (weighings p) → sectionIn edition1 (slotCount p) ev i ≡ getD (weighings p) i noCost
-        unfolding partFault partsFault sectionFault numbersTest
-        section-right i h =
-            let l : i < length (candidates p) = rw weighings-length at h in
-            let y = first-map-none (partFault bs ev) 0 (parts bs) (sym none) (suc i) (rw length-range (omega arith)) in
-            let z = rw part-of at y in
-            let w = getD (weighings p) i noCost in
-            let s = test-numbers edition1 p ev i w (rw Bool·not-not at (on-zero (not (numbersTest edition1 p ev i w)) 14 (first-zero _ z 1))) in
-            let c : w .block ≡ getD (candidates p) i 0 = rw (weighing-at p i l) (weighed-block p (getD (candidates p) i 0)) in
-            let b = right-form edition1 p ev (rw f tt) .blocks i l ∙ sym c in
-            λ j. record { block = b j; loss = s .0 j; mark = s .1 j }
-
         pub stated-weighings : {n count : ℕ} → slotCount p ≡ n → count ≡ length (candidates p) → stated n ev count ≡ weighings p
-        unfolding stated
+        unfolding stated partFault partsFault sectionFault numbersTest
         stated-weighings many counted =
-            rw (← many, counted, ← weighings-length p) (range-made noCost (sectionIn edition1 (slotCount p) ev) (weighings p) section-right)
+            rw (← many, counted)
+            (weighings-stated p (sectionIn edition1 (slotCount p) ev) (right-form edition1 p ev (rw f tt) .blocks)
+            (λ i l.
+            let y = first-map-none (partFault bs ev) 0 (parts bs) (sym none) (suc i) (rw length-range (omega arith)) in
+            let z = rw (part-of, weighing-at p i l) at y in
+            let w = weighed p (getD (candidates p) i 0) in
+            test-numbers edition1 p ev i w (rw Bool·not-not at (on-zero (not (numbersTest edition1 p ev i w)) 14 (first-zero _ z 1)))))
 
         -- the verdict is wrong, or nothing is
         pub check-verdict : verdictRight ev (weighings p) ≡ false → 16 ≡ checkFault bs ev

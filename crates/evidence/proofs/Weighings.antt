@@ -1,15 +1,19 @@
 -- The weighings of a picture are those of its candidates, and what they say is so by chains. Assumes nothing.
-use mathlib.Core.Path.{_≡_, ap, _∙_}
+use mathlib.Core.Path.{_≡_, sym, ap, _∙_}
 use mathlib.Core.Logic.{_≢_, by-cases}
+use mathlib.Core.List.{map}
 use Prim.Native.Nat.{ℕ, _≤_, _<_}
 use native.Mathlib.Omega.{arith}
 use native.Mathlib.Decide.{ℕ-discrete}
 use lib.ListN.{length, getD, length-map}
+use Rattle.lists.specs.Lists.{range}
+use Rattle.lists.proofs.Ranges.{range-made}
 use Rattle.lists.proofs.Picks.{Placed, map-at}
 use Rattle.picture.specs.Picture.{Picture}
+use Rattle.network.specs.declared.Cost.{Cost}
 use Rattle.network.specs.Words.{blockCount, Candidate, CutsProtected, Admissible, Named}
 use Rattle.network.specs.Tests.{weighed, candidates}
-use Rattle.network.proofs.Weights.{mark-protected, protected-mark, mark-le}
+use Rattle.network.proofs.Weights.{weighed-block, mark-protected, protected-mark, mark-le}
 use Rattle.network.proofs.Candidates.{candidates-are, candidates-all}
 use Rattle.evidence.specs.Canonical.{noCost, weighings}
 
@@ -40,6 +44,18 @@ module _ (p : Picture) where
   weighing-candidate i h =
       let s : i < length (candidates p) = omega (arith, weighings-length) in
       record { block = getD (candidates p) i 0; candidate = candidates-are p i s; same = weighing-at i s }
+
+  -- sections with the block, the loss and the mark of each candidate, in their order, state the weighings
+  pub weighings-stated : (f : ℕ → Cost) → ((i : ℕ) → i < length (candidates p) → f i .block ≡ getD (candidates p) i 0)
+      → ((i : ℕ) → i < length (candidates p) → (f i .loss ≡ weighed p (getD (candidates p) i 0) .loss) × (f i .mark ≡ weighed p (getD (candidates p) i 0) .mark))
+      → map f (range 0 (length (candidates p))) ≡ weighings p
+  weighings-stated f blocks numbers =
+      rw (← weighings-length)
+      (range-made noCost f (weighings p)
+      (λ i h.
+      let s : i < length (candidates p) = omega (arith, weighings-length) in
+      let b = blocks i s ∙ sym (weighed-block p (getD (candidates p) i 0)) in
+      (λ j. record { block = b j; loss = numbers i s .0 j; mark = numbers i s .1 j }) ∙ sym (weighing-at i s)))
 
 -- ---- the mark
 
