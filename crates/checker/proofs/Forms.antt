@@ -1,7 +1,7 @@
 -- The form of evidence: the code finds what the test says, which is what the rule says. Assumes nothing.
 use mathlib.Core.Path.{_≡_, refl, _∙_}
-use mathlib.Core.Bool.{Bool, true, false, _&&_, cond, and-assoc, and-comm}
-use mathlib.Core.List.{List, [], _∷_, _++_, append-nil}
+use mathlib.Core.Bool.{Bool, true, false, _&&_, and-assoc, and-comm}
+use mathlib.Core.List.{List, [], _∷_, _++_}
 use Prim.Native.Nat.{ℕ, _+_, _≤_}
 use native.Mathlib.Omega.{arith}
 use native.Mathlib.Nat.{zero-add}
@@ -10,7 +10,7 @@ use lib.ListN.{length, getD, length-append, List·getD-append}
 use lib.Seq.{getD-append-seam}
 use Rattle.lists.specs.Lists.{range, all, filter}
 use Rattle.lists.proofs.Alls.{all-more, all-same}
-use Rattle.lists.proofs.Growing.{filter-more}
+use Rattle.lists.proofs.Growing.{filter-hit, filter-miss}
 use Rattle.picture.specs.Layout.{edition1}
 use Rattle.picture.specs.Picture.{Picture}
 use Rattle.network.specs.Words.{slotCount}
@@ -37,10 +37,6 @@ module _ (n : ℕ) (ev near : List ℕ) (size : ℕ) where
   unfolding blocksMarked sectionsTest range filter all
   forming-begun = record { few = omega arith; counted = refl; tested = refl }
 
-  more : (b : ℕ) → blocksMarked near size (b + 1) ≡ blocksMarked near size b ++ cond (blockMarked near size b) (b ∷ []) []
-  unfolding blocksMarked
-  more b = rw (add-one b, filter-more (blockMarked near size) 0 b, zero-add b)
-
   sections-more : (cs : List ℕ) (b : ℕ) → sectionsTest n ev (cs ++ (b ∷ [])) ≡ (sectionsTest n ev cs && sectionTest n ev (length cs) b)
   unfolding sectionsTest
   sections-more cs b =
@@ -51,15 +47,17 @@ module _ (n : ℕ) (ev near : List ℕ) (size : ℕ) where
   module _ {right : Bool} {count b : ℕ} (f : Forming n ev near size right count b) where
     -- the block at hand is no candidate
     pub forming-miss : blockMarked near size b ≡ false → Forming n ev near size right count (b + 1)
+    unfolding blocksMarked
     forming-miss e =
-        let same : blocksMarked near size (b + 1) ≡ blocksMarked near size b = more b ∙ rw e (append-nil _) in
+        let same = filter-miss (blockMarked near size) 0 b (rw zero-add e) in
         record { few = omega (arith, f .few); counted = rw same (f .counted); tested = rw same (f .tested) }
 
     -- it is one, and its section is right or is not
     pub forming-hit : {right′ : Bool} → blockMarked near size b ≡ true → right′ ≡ (right && sectionTest n ev count b)
         → Forming n ev near size right′ (count + 1) (b + 1)
+    unfolding blocksMarked
     forming-hit e r =
-        let longer : blocksMarked near size (b + 1) ≡ blocksMarked near size b ++ (b ∷ []) = more b ∙ rw e in
+        let longer = rw zero-add at (filter-hit (blockMarked near size) 0 b (rw zero-add e)) in
         record {
           few = omega (arith, f .few);
           counted = rw (longer, length-append (blocksMarked near size b) (b ∷ []), f .counted);

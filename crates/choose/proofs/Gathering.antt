@@ -1,14 +1,14 @@
 -- The sections of the candidates, block by block. Assumes nothing.
 use mathlib.Core.Path.{_≡_, refl, sym, ap₂, _∙_}
 use mathlib.Core.Bool.{true, false}
-use mathlib.Core.List.{List, [], _∷_, _++_, map, append-nil}
+use mathlib.Core.List.{List, [], _∷_, _++_, map}
 use Prim.Native.Nat.{ℕ, suc, _+_, _*_, _≤_, _<_}
 use native.Mathlib.Omega.{arith}
 use native.Mathlib.Nat.{zero-add, suc-mul, mul-le-mul-right}
 use native.Mathlib.Numerals.{add-one}
 use lib.ListN.{length, length-append, length-map}
 use Rattle.lists.specs.Lists.{range, filter, flat}
-use Rattle.lists.proofs.Growing.{map-append, flat-map-more, filter-more, filter-grows}
+use Rattle.lists.proofs.Growing.{map-append, flat-map-more, filter-hit, filter-miss, filter-grows}
 use Rattle.lists.proofs.Scans.{count-hit}
 use Rattle.packing.specs.Holding.{Put}
 use Rattle.packing.proofs.Putting.{put-none, put-behind, put-same}
@@ -34,11 +34,11 @@ module _ (p : Picture) where
 
   pub below-hit : (b : ℕ) → isCandidate p b ≡ true → weighedBelow (b + 1) ≡ weighedBelow b ++ (weighed p b ∷ [])
   unfolding weighedBelow
-  below-hit b e = rw (add-one, filter-more, zero-add, e, map-append)
+  below-hit b e = rw (filter-hit (isCandidate p) 0 b (rw zero-add e), zero-add, map-append)
 
   pub below-miss : (b : ℕ) → isCandidate p b ≡ false → weighedBelow (b + 1) ≡ weighedBelow b
   unfolding weighedBelow
-  below-miss b e = rw (add-one, filter-more, zero-add, e, append-nil)
+  below-miss b e = rw (filter-miss (isCandidate p) 0 b (rw zero-add e))
 
   pub below-all : weighedBelow (blockCount p) ≡ weighings p
   unfolding weighedBelow weighings candidates

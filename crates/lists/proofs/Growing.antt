@@ -6,6 +6,7 @@ pub use mathlib.Core.List.{map-append}
 use Prim.Native.Nat.{ℕ, zero, suc, _+_, _-_, _≤_}
 use native.Mathlib.Omega.{arith}
 use native.Mathlib.Nat.{add-zero, add-suc, suc-add}
+use native.Mathlib.Numerals.{add-one}
 use lib.ListN.{length, length-append}
 use Rattle.lists.specs.Lists.{range, filter, flat}
 
@@ -33,6 +34,12 @@ module _ {A : Type 0} where
 pub filter-more : (f : ℕ → Bool) (i k : ℕ) → filter f (range i (suc k)) ≡ filter f (range i k) ++ cond (f (i + k)) ((i + k) ∷ []) []
 unfolding filter
 filter-more f i k = ap (filter f) (range-more i k) ∙ filter-append f (range i k) ((i + k) ∷ [])
+
+pub filter-hit : (f : ℕ → Bool) (i k : ℕ) → f (i + k) ≡ true → filter f (range i (k + 1)) ≡ filter f (range i k) ++ ((i + k) ∷ [])
+filter-hit f i k e = rw (add-one, filter-more, e)
+
+pub filter-miss : (f : ℕ → Bool) (i k : ℕ) → f (i + k) ≡ false → filter f (range i (k + 1)) ≡ filter f (range i k)
+filter-miss f i k e = rw (add-one, filter-more, e, append-nil)
 
 -- of a longer range no fewer are left
 pub filter-grows : (f : ℕ → Bool) (i k m : ℕ) → k ≤ m → length (filter f (range i k)) ≤ length (filter f (range i m))
