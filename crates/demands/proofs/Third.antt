@@ -23,7 +23,7 @@ use Rattle.evidence.proofs.Held.{evidence-reads}
 use Rattle.evidence.proofs.Lengths.{choose-takes, chosen-evidence}
 use Rattle.evidence.proofs.Passing.{check-passes, passes-check}
 use Rattle.evidence.proofs.Canonical.{own-passes}
-use Rattle.evidence.proofs.Unique.{same-verdict}
+use Rattle.evidence.proofs.Unique.{verdict-named, same-verdict}
 use Rattle.choose.proofs.Answering.{choosing-numbers}
 use Rattle.checker.specs.declared.Checking.the-variants.{Passed, Refused as Unpassed}
 use Rattle.checker.specs.Answers.{checkingOf, checking, checkingNumbers}
@@ -74,14 +74,6 @@ all-none : {p : Picture} {v b l : ℕ} → Verdict p v b l → AllCut p → v �
 all-none (chosen {block = b} n) k = absurd (n .admissible (k b (n .candidate)))
 all-none (none k) _ = refl
 
-verdict-small : {p : Picture} {v b l : ℕ} → Verdict p v b l → v ≤ 1
-verdict-small (chosen n) = omega arith
-verdict-small (none k) = omega arith
-
-verdict-named : {p : Picture} {v b l : ℕ} → Verdict p v b l → v ≢ 0 → LeastAdmissible p b l
-verdict-named (chosen n) _ = n
-verdict-named (none k) m = absurd (m refl)
-
 -- ---- what is named
 
 module _ (bs : List ℕ) (ok : pictureFault bs ≡ 0) where
@@ -130,7 +122,7 @@ fixed-proves bs ok =
     record {
       none-cuts = none-all right;
       cuts-none = all-none right;
-      verdict = verdict-small right;
+      verdict = passing .form .verdict;
       names = λ m.
           let n = verdict-named right m in
           record {

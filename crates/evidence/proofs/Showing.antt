@@ -18,19 +18,19 @@ use Rattle.lists.proofs.Tests.{eq-T}
 use Rattle.lists.proofs.Searches.{place-holds, place-first}
 use Rattle.lists.proofs.Picks.{Placed}
 use Rattle.picture.specs.Layout.{edition1, fieldIn}
-use Rattle.picture.specs.Picture.{Picture, pictureOf}
-use Rattle.network.specs.Words.{slotCount, Candidate}
+use Rattle.picture.specs.Picture.{pictureOf}
+use Rattle.network.specs.Words.{slotCount}
 use Rattle.network.specs.Tests.{candidates}
 use Rattle.network.proofs.Candidates.{candidate-below, candidates-all}
 use Rattle.evidence.specs.declared.Part.{Part}
 use Rattle.evidence.specs.Layout.{sectionHeadWidths, sectionBytes, sectionAt, evidenceBytes}
 use Rattle.evidence.specs.Contents.{headIn, sectionIn}
 use Rattle.evidence.specs.Checks.{checkFault}
-use Rattle.evidence.specs.Rules.{Verdict, chosen, none}
 use Rattle.evidence.specs.Calls.{shownPart, shown, SectionOf}
 use Rattle.evidence.proofs.Places.{section-bytes, section-at}
 use Rattle.evidence.proofs.Lengths.{sections-end}
 use Rattle.evidence.proofs.Passing.{Passes, check-passes}
+use Rattle.evidence.proofs.Unique.{verdict-named}
 
 -- ---- a part of some bytes
 
@@ -46,11 +46,6 @@ part-field bs t s w h =
     rw (getD-take s (drop t bs) ((0 + i) / 8) 0 a, getD-drop t bs ((0 + i) / 8) 0, b, c))
 
 -- ---- the part
-
--- the verdict names a candidate
-named-candidate : {p : Picture} {v b l : ℕ} → Verdict p v b l → v ≡ 1 → Candidate p b
-named-candidate (chosen n) e = n .candidate
-named-candidate (none k) e = absurd (omega arith)
 
 module _ (bs ev : List ℕ) where
   -- where the block that is named stands among the candidates
@@ -76,7 +71,7 @@ module _ (bs ev : List ℕ) where
 
     placed : Placed 0 (candidates (pictureOf bs)) (headIn ev .block)
     placed =
-        let c = named-candidate (passes .verdict) one in
+        let c = verdict-named (passes .verdict) (λ z. absurd (omega (arith, one))) .candidate in
         candidates-all (pictureOf bs) (candidate-below bs (passes .accepted) (headIn ev .block) c) c
 
     named-within : namedAt < length (candidates (pictureOf bs))

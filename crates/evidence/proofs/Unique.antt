@@ -1,12 +1,18 @@
--- All evidence that passes for a picture has the same verdict and the same loss. Assumes nothing.
+-- What a right verdict names, and all evidence that passes for a picture has the same verdict and the same loss. Assumes nothing.
 use mathlib.Core.Path.{_≡_, refl}
+use mathlib.Core.Logic.{_≢_}
 use mathlib.Core.List.{List}
 use Prim.Native.Nat.{ℕ}
 use native.Mathlib.Omega.{arith}
 use Rattle.picture.specs.Picture.{Picture}
 use Rattle.evidence.specs.Contents.{headIn}
-use Rattle.evidence.specs.Rules.{Verdict, chosen, none}
+use Rattle.evidence.specs.Rules.{LeastAdmissible, Verdict, chosen, none}
 use Rattle.evidence.proofs.Passing.{Passes}
+
+-- it names a candidate, or none
+pub verdict-named : {p : Picture} {v b l : ℕ} → Verdict p v b l → v ≢ 0 → LeastAdmissible p b l
+verdict-named (chosen n) _ = n
+verdict-named (none k) m = absurd (m refl)
 
 -- the block may be another one of the least
 pub verdict-one : {p : Picture} {v b l v′ b′ l′ : ℕ} → Verdict p v b l → Verdict p v′ b′ l′ → (v ≡ v′) × (l ≡ l′)
