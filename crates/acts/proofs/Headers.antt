@@ -2,9 +2,9 @@
 use mathlib.Core.Path.{_≡_, refl, sym, ap, ap₂, _∙_, subst}
 use mathlib.Core.Bool.{Bool, false, not, _&&_, and-comm}
 use mathlib.Core.List.{List}
-use Prim.Native.Nat.{ℕ, zero, suc, _+_, _*_, _≤_, _<_}
+use Prim.Native.Nat.{ℕ, _+_, _*_, _≤_, _<_}
 use native.Mathlib.Omega.{arith}
-use native.Mathlib.Nat.{add-comm, not-suc-le-zero}
+use native.Mathlib.Nat.{add-comm}
 use Rattle.rows.specs.Rows.{slotsMax}
 use borrow.Author.Tests.{le-leb, lt-leb}
 use lib.Dec.{eqb, leb}
@@ -19,6 +19,7 @@ use Rattle.picture.proofs.Facts.{read-picture, read-sizes}
 use Rattle.network.specs.Words.{slotCount, blockCount, inBlock, isHeld}
 use Rattle.network.specs.Tests.{isNearHeld}
 use Rattle.network.proofs.Blocks.{block-fits, read-block-size, read-slots, read-blocks}
+use Rattle.network.proofs.Candidates.{held-state}
 use Rattle.acts.specs.declared.Act.{Act}
 use Rattle.acts.specs.Faults.{changes}
 use Rattle.acts.specs.Acts.{after, blockSlots, recoverableNear}
@@ -74,9 +75,8 @@ slot-next f k e = ap f (add-comm 1 k) ∙ sym e
 
 -- a slot that is near and in state 0 is held and near
 pub near-held : (p : Picture) (v : ℕ) → 1 ≤ v → (slotOf p v .near && eqb (slotOf p v .state) 0) ≡ isNearHeld p v
-unfolding isNearHeld isHeld
-near-held p zero l = absurd (not-suc-le-zero l)
-near-held p (suc i) l = and-comm (slotOf p (suc i) .near) (eqb (slotOf p (suc i) .state) 0)
+unfolding isNearHeld
+near-held p v l = rw (held-state p v l) (and-comm (slotOf p v .near) (isHeld p v))
 
 -- ---- a near slot that a reload of a block adds
 

@@ -1,13 +1,13 @@
 -- The candidates as a test and as a list are the blocks with a held near slot. Assumes nothing.
-use mathlib.Core.Path.{_≡_, sym, ap, ap₂, _∙_, subst, fun-ext}
+use mathlib.Core.Path.{_≡_, refl, sym, ap, ap₂, _∙_, subst, fun-ext}
 use mathlib.Core.Bool.{Bool, _&&_}
 use mathlib.Core.Logic.{⊎-elim}
 use mathlib.Core.List.{List}
-use Prim.Native.Nat.{ℕ, _+_, _*_, _/_, _%_, _≤_, _<_, zero-le}
+use Prim.Native.Nat.{ℕ, zero, suc, _+_, _*_, _/_, _%_, _≤_, _<_, zero-le}
 use native.Mathlib.Omega.{arith}
 use native.Mathlib.Nat.{zero-add, div-add-mod', lt-of-mul-lt-mul-right}
 use borrow.Author.Tests.{le-leb}
-use lib.Dec.{T, leb, leb→le}
+use lib.Dec.{T, eqb, leb, leb→le}
 use lib.ListN.{length, getD}
 use Rattle.lists.specs.Lists.{range, filter}
 use Rattle.lists.proofs.Alls.{same-test}
@@ -25,6 +25,12 @@ use Rattle.network.specs.Rows.{SlotRowsOf, blockMarked, blocksMarked}
 use Rattle.network.proofs.Named.{slots-counted}
 
 -- ---- the test
+
+-- a slot is held where its state is 0
+pub held-state : (p : Picture) (v : ℕ) → 1 ≤ v → eqb (slotOf p v .state) 0 ≡ isHeld p v
+unfolding isHeld
+held-state p zero l = absurd (omega arith)
+held-state p (suc i) l = refl
 
 -- a near slot is one of 1 to n: any other number has the default, which is not near
 pub near-slot : (p : Picture) (v : ℕ) → T (slotOf p v .near) → (1 ≤ v) × (v ≤ slotCount p)
