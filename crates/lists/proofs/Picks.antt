@@ -1,6 +1,6 @@
 -- What is picked of a list: an element by its number, what a filter leaves and in which order, and how a sum over a test splits.
 -- Assumes nothing.
-use mathlib.Core.Path.{_≡_, refl, sym, _∙_, subst}
+use mathlib.Core.Path.{_≡_, refl, sym, ap₂, _∙_, subst}
 use mathlib.Core.Bool.{Bool, true, false, not, _&&_, cond}
 use mathlib.Core.Logic.{_⊎_, inl, inr}
 use mathlib.Core.List.{List, [], _∷_, map}
@@ -32,6 +32,11 @@ pub map-at : {A B : Type 0} (f : A → B) (d : B) (z : A) (l : List A) (i : ℕ)
 map-at f d z [] i h = absurd (not-suc-le-zero h)
 map-at f d z (x ∷ l) zero h = refl
 map-at f d z (x ∷ l) (suc i) h = map-at f d z l i (le-of-suc-le-suc h)
+
+-- each element is made again
+pub map-back : {A B : Type 0} (d : A) (f : A → B) (g : B → A) (l : List A) → ((i : ℕ) → i < length l → g (f (getD l i d)) ≡ getD l i d) → map g (map f l) ≡ l
+map-back d f g [] h = refl
+map-back {A} d f g (x ∷ l) h = ap₂ {C = List A} (λ (y : A) (r : List A). y ∷ r) (h 0 (suc-le-suc zero-le)) (map-back d f g l (λ i s. h (suc i) (suc-le-suc s)))
 
 -- in a list of zeros, and past its end, there is nothing else
 pub zeros-at : (n i : ℕ) → getD {A = ℕ} (replicate n 0) i 0 ≡ 0

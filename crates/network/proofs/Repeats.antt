@@ -1,6 +1,6 @@
 -- A repeated link counts once, and so does a repeated service link: nothing that is promised of a picture changes. Assumes nothing.
 use mathlib.Core.Path.{_≡_, refl, sym, ap, _∙_, subst, subst₂, fun-ext}
-use mathlib.Core.Bool.{Bool, true, false, not, _&&_, _||_, or-assoc}
+use mathlib.Core.Bool.{Bool, true, false, not, _&&_, _||_}
 use mathlib.Core.Logic.{_↔_, Iff·symm}
 use mathlib.Core.List.{List, [], _∷_, _++_, map}
 use Prim.Native.Nat.{ℕ, zero, suc, _+_, _*_, _/_, _≤_}
@@ -8,7 +8,7 @@ use lib.Dec.{T, leb, eqb}
 use lib.ListN.{length, getD}
 use Rattle.lists.specs.Lists.{range, on, sum, all, any, filter, item}
 use Rattle.lists.specs.Totals.{Total}
-use Rattle.lists.proofs.Tests.{at-any, all-any}
+use Rattle.lists.proofs.Tests.{any-append, at-any, all-any}
 use Rattle.graph.specs.Chains.{Reached}
 use Rattle.graph.specs.Rounds.{reachedIn}
 use Rattle.picture.specs.declared.Link.{Link}
@@ -23,11 +23,6 @@ use Rattle.network.proofs.Weights.{total-same}
 -- ---- a test of any link tells no copy from the first
 
 module _ (f : Link → Bool) where
-  any-append : (xs ys : List Link) → any f (xs ++ ys) ≡ (any f xs || any f ys)
-  unfolding any
-  any-append [] ys = refl
-  any-append (x ∷ xs) ys = ap (λ (b : Bool). f x || b) (any-append xs ys) ∙ sym (or-assoc (f x) (any f xs) (any f ys))
-
   -- a link with these ends is this link
   found-there : (ls : List Link) (l : Link) → T (joins ls (l .from) (l .to)) → T (f l) → T (any f ls)
   found-there ls l t h =
@@ -45,8 +40,8 @@ module _ (f : Link → Bool) where
   unfolding any
   repeats-any same = refl
   repeats-any (again xs l ys t r) =
-      repeats-any r ∙ any-append xs ys
-      ∙ sym (any-append xs (l ∷ ys) ∙ absorbed (any f xs) (f l) (any f ys) (λ h. subst T (any-append xs ys) (found-there (xs ++ ys) l t h)))
+      repeats-any r ∙ any-append f xs ys
+      ∙ sym (any-append f xs (l ∷ ys) ∙ absorbed (any f xs) (f l) (any f ys) (λ h. subst T (any-append f xs ys) (found-there (xs ++ ys) l t h)))
 
 -- nor does a test of all links
 pub repeats-all : (f : Link → Bool) {ls ls′ : List Link} → Repeats ls ls′ → all f ls ≡ all f ls′

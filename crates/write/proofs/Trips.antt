@@ -1,14 +1,15 @@
 -- Writing and reading, one after the other: what is written reads back to the same lists, an accepted picture, read and written, yields its
 -- own bytes, and a refusal leaves the buffer. Assumes nothing.
-use mathlib.Core.Path.{_≡_, refl, sym, ap, ap₂, _∙_}
+use mathlib.Core.Path.{_≡_, refl, sym, ap, _∙_}
 use mathlib.Core.Logic.{_≢_}
-use mathlib.Core.List.{List, [], _∷_, map, append-nil, map-id}
-use Prim.Native.Nat.{ℕ, suc, _+_, _/_, _≤_, _<_, zero-le, suc-le-suc}
+use mathlib.Core.List.{List, [], _∷_, append-nil, map-id}
+use Prim.Native.Nat.{ℕ, _+_, _/_, _≤_}
 use native.Mathlib.Omega.{arith}
 use borrow.Author.Tests.{ne-eqb}
-use lib.ListN.{length, getD, drop, length-map}
+use lib.ListN.{length, drop, length-map}
 use lib.Seq.{take-at, drop-length}
 use Rattle.lists.specs.Lists.{sum}
+use Rattle.lists.proofs.Picks.{map-back}
 use Rattle.lists.proofs.Zips.{map-zip-first, map-zip-second, zip-columns}
 use Rattle.packing.specs.Packing.{Bytes}
 use Rattle.packing.specs.Holding.{span, Holds}
@@ -34,11 +35,6 @@ use Rattle.write.proofs.Judged.{write-right, right-write}
 use Rattle.write.proofs.Reading.{Says, holds-picture, header-kept, accepted-held}
 
 -- ---- from lists to a picture and back
-
--- each element is made again
-map-back : {A B : Type 0} (d : A) (f : A → B) (g : B → A) (l : List A) → ((i : ℕ) → i < length l → g (f (getD l i d)) ≡ getD l i d) → map g (map f l) ≡ l
-map-back d f g [] h = refl
-map-back {A} d f g (x ∷ l) h = ap₂ {C = List A} (λ (y : A) (r : List A). y ∷ r) (h 0 (suc-le-suc zero-le)) (map-back d f g l (λ i s. h (suc i) (suc-le-suc s)))
 
 -- two numbers are the pair of their link
 pair-made : (l : List ℕ) → length l ≡ 2 → pairOf (linkFrom l) ≡ l
