@@ -1,11 +1,11 @@
 -- Numbers in decimal: how many digits they take. Assumes nothing.
-use mathlib.Core.Path.{_≡_, refl, sym, ap, _∙_}
+use mathlib.Core.Path.{_≡_, refl, ap, _∙_}
 use mathlib.Core.Bool.{Bool, true, false}
 use mathlib.Core.Logic.{by-cases}
 use mathlib.Core.List.{List}
 use Prim.Native.Nat.{ℕ, zero, suc, _+_, _/_, _^_, _≤_, _<_}
 use native.Mathlib.Omega.{arith}
-use native.Mathlib.Nat.{add-zero, pow-succ', pow-le-pow-right}
+use native.Mathlib.Nat.{pow-succ', pow-le-pow-right}
 use native.Mathlib.Numerals.{one-add, unary-clauses}
 use native.Mathlib.Decide.{ℕ-discrete, decLt}
 use borrow.Author.Tests.{lt-ltb, le-ltb}
@@ -13,22 +13,12 @@ use lib.Dec.{ltb}
 use lib.ListN.{length, length-append}
 use Rattle.lists.specs.Lists.{range, place}
 use Rattle.lists.proofs.Ranges.{length-range}
-use Rattle.lists.proofs.Searches.{place-le, place-first}
+use Rattle.lists.proofs.Searches.{place-le, place-first, place-is}
 use Rattle.lists.proofs.Picks.{getD-range}
 use Rattle.io.specs.Digits.{digits, Fewest}
 use Rattle.listing.specs.Decimal.{places, decimal}
 use Rattle.listing.specs.Text.{Texted}
 use Rattle.listing.specs.Listing.{item}
-
--- the place of the first number that passes is j, where the j before it do not and it does, or the numbers end
-place-is : (f : ℕ → Bool) (i k j : ℕ) → j ≤ k → ((m : ℕ) → m < j → f (i + m) ≡ false) → (j < k → f (i + j) ≡ true)
-    → place f (range i k) ≡ j
-unfolding place range
-place-is f i zero j h a b = omega arith
-place-is f i (suc k) zero h a b = rw (rw add-zero at (b (omega arith)))
-place-is f i (suc k) (suc j) h a b =
-    let rest = place-is f (suc i) k j (omega arith) (λ m l. ap f (omega arith) ∙ a (suc m) (omega arith)) (λ l. ap f (omega arith) ∙ b (omega arith)) in
-    rw (rw add-zero at (a 0 (omega arith)), rest)
 
 -- j is below 10 to the j
 below-power : (j : ℕ) → j < 10 ^ j
@@ -39,7 +29,7 @@ below-power (suc j) = omega (arith, pow-succ' 10 j, below-power j)
 pub fewest-places : (n r : ℕ) → Fewest 10 1 n r → r ≡ places n
 unfolding places
 fewest-places n zero f = absurd (omega (arith, f .0))
-fewest-places n (suc j) f = ap suc (sym (place-is (λ k. ltb n (10 ^ k)) 1 n j ends before here))
+fewest-places n (suc j) f = ap suc (place-is (λ k. ltb n (10 ^ k)) 1 j n ends before here)
   where
     least : 0 < j → 10 ^ j ≤ n
     least l = simp unary-clauses at (f .2 (omega arith))

@@ -1,5 +1,5 @@
 -- The first element of a list that passes a test: that it passes, that none before it does, and its bounds. Assumes nothing.
-use mathlib.Core.Path.{_≡_, refl, ap, subst}
+use mathlib.Core.Path.{_≡_, refl, ap, _∙_, subst}
 use mathlib.Core.Bool.{Bool, true, false, _||_, cond}
 use mathlib.Core.List.{List, [], _∷_, map}
 use Prim.Native.Nat.{ℕ, zero, suc, _+_, _<_, _≤_, zero-le, suc-le-suc}
@@ -54,25 +54,21 @@ place-map f g (x ∷ l) = ap (λ (k : ℕ). cond (f (g x)) 0 (suc k)) (place-map
 
 -- a scan of a range: the numbers before k were looked at, and none of them passes
 module _ (f : ℕ → Bool) where
-  place-from : (i k n : ℕ) → k < n → ((j : ℕ) → i ≤ j → j < i + k → f j ≡ false) → f (i + k) ≡ true → k ≡ place f (range i n)
+  -- the next one passes, or the range ends
+  pub place-is : (i k n : ℕ) → k ≤ n → ((j : ℕ) → j < k → f (i + j) ≡ false) → (k < n → f (i + k) ≡ true) → k ≡ place f (range i n)
   unfolding place range
-  place-from i zero zero l h e = absurd (not-suc-le-zero l)
-  place-from i zero (suc n) l h e = rw (rw add-zero at e)
-  place-from i (suc k) zero l h e = absurd (not-suc-le-zero l)
-  place-from i (suc k) (suc n) l h e =
-      let next : i + suc k ≡ suc i + k = omega arith in
-      rw (h i (omega arith) (omega arith)) (ap suc (place-from (suc i) k n (le-of-suc-le-suc l) (λ j a b. h j (omega arith) (omega arith)) (rw next at e)))
-
-  none-from : (i n : ℕ) → ((j : ℕ) → i ≤ j → j < i + n → f j ≡ false) → n ≡ place f (range i n)
-  unfolding place range
-  none-from i zero h = refl
-  none-from i (suc n) h = rw (h i (omega arith) (omega arith)) (ap suc (none-from (suc i) n (λ j a b. h j (omega arith) (omega arith))))
+  place-is i zero zero l h e = refl
+  place-is i zero (suc n) l h e = rw (rw add-zero at (e (omega arith)))
+  place-is i (suc k) zero l h e = absurd (omega arith)
+  place-is i (suc k) (suc n) l h e =
+      let rest = place-is (suc i) k n (omega arith) (λ j s. ap f (omega arith) ∙ h (suc j) (omega arith)) (λ s. ap f (omega arith) ∙ e (omega arith)) in
+      rw (rw add-zero at (h 0 (omega arith))) (ap suc rest)
 
   pub place-found : (k n : ℕ) → k < n → ((j : ℕ) → j < k → f j ≡ false) → f k ≡ true → k ≡ place f (range 0 n)
-  place-found k n l h e = place-from 0 k n l (λ j a b. h j (omega arith)) (rw zero-add e)
+  place-found k n l h e = place-is 0 k n (omega arith) (λ j s. rw zero-add (h j s)) (λ _. rw zero-add e)
 
   pub place-none : (n : ℕ) → ((j : ℕ) → j < n → f j ≡ false) → n ≡ place f (range 0 n)
-  place-none n h = none-from 0 n (λ j a b. h j (omega arith))
+  place-none n h = place-is 0 n n (omega arith) (λ j s. rw zero-add (h j s)) (λ l. absurd (omega arith))
 
 -- ---- the number itself
 
