@@ -7,7 +7,8 @@ use native.Mathlib.Omega.{arith}
 use native.Mathlib.Decide.{ℕ-discrete}
 use native.Mathlib.Numerals.{add-one}
 use native.Mathlib.Nat.{add-zero, add-suc, add-assoc, mul-assoc, mul-one, mod-one, mod-lt, div-one, mod-eq-of-lt, pow-suc, zero-lt-suc, lt-of-lt-of-le}
-use lib.ListN.{getD}
+use lib.ListN.{getD, take, drop}
+use lib.Seq.{getD-take, getD-drop}
 use lib.Pow.{pow-mono, shr-shr, mod-pow-add, high, low}
 use lib.Arith.{digits-lt}
 use Rattle.bits.specs.Bits.{bitAt, number, fieldAt}
@@ -115,6 +116,17 @@ fieldAt-more bs k i {v} {r} e h f =
     let joined : fieldAt bs (k * 8) ((i + 1) * 8) ≡ fieldAt bs (k * 8) (i * 8) * 256 + fieldAt bs (k * 8 + i * 8) 8 = ap (fieldAt bs (k * 8)) width ∙ fieldAt-join bs (k * 8) (i * 8) 8 in
     let byte : fieldAt bs (k * 8 + i * 8) 8 ≡ getD bs (k + i) 0 = ap (λ (q : ℕ). fieldAt bs q 8) place ∙ fieldAt-byte bs (k + i) h in
     omega arith
+
+-- a field of the s bytes from byte t on is a field of all of them
+pub fieldAt-part : (bs : List ℕ) (t s p w : ℕ) → p + w ≤ s * 8 → fieldAt (take s (drop t bs)) p w ≡ fieldAt bs (t * 8 + p) w
+unfolding fieldAt bitAt
+fieldAt-part bs t s p w h =
+    number-ext _ _ w
+    (λ i l.
+    let inside : (p + i) / 8 < s = omega arith in
+    let byte : t + (p + i) / 8 ≡ (t * 8 + p + i) / 8 = omega arith in
+    let place : (p + i) % 8 ≡ (t * 8 + p + i) % 8 = omega arith in
+    rw (getD-take s (drop t bs) ((p + i) / 8) 0 inside, getD-drop t bs ((p + i) / 8) 0, byte, place))
 
 -- ---- a field is 0 exactly where its bits are
 

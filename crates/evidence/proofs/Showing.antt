@@ -3,16 +3,15 @@ use mathlib.Core.Path.{_≡_, ap, _∙_}
 use mathlib.Core.Bool.{and-false}
 use mathlib.Core.Logic.{_≢_, by-cases}
 use mathlib.Core.List.{List}
-use Prim.Native.Nat.{ℕ, _+_, _*_, _/_, _%_, _≤_, _<_}
+use Prim.Native.Nat.{ℕ, _+_, _*_, _/_, _≤_, _<_}
 use native.Mathlib.Omega.{arith}
 use native.Mathlib.Decide.{ℕ-discrete}
 use native.Mathlib.Nat.{mul-le-mul-right, suc-mul}
 use borrow.Author.Tests.{eq-eqb, ne-eqb}
 use lib.Dec.{eqb, eqb→eq}
-use lib.ListN.{length, getD, take, drop, length-take, length-drop}
-use lib.Seq.{getD-take, getD-drop}
-use Rattle.bits.specs.Bits.{bitAt, fieldAt}
-use Rattle.bits.proofs.Reading.{number-ext}
+use lib.ListN.{length, getD, length-take, length-drop}
+use Rattle.bits.specs.Bits.{fieldAt}
+use Rattle.bits.proofs.Reading.{fieldAt-part}
 use Rattle.lists.specs.Lists.{place, sum}
 use Rattle.lists.proofs.Tests.{eq-T}
 use Rattle.lists.proofs.Searches.{place-holds, place-first}
@@ -31,21 +30,6 @@ use Rattle.evidence.proofs.Places.{section-bytes, section-at}
 use Rattle.evidence.proofs.Lengths.{sections-end}
 use Rattle.evidence.proofs.Passing.{Passes, check-passes}
 use Rattle.evidence.proofs.Unique.{verdict-named}
-
--- ---- a part of some bytes
-
--- a field of the s bytes from byte t on is a field of all of them
-part-field : (bs : List ℕ) (t s w : ℕ) → w ≤ s * 8 → fieldAt (take s (drop t bs)) 0 w ≡ fieldAt bs (t * 8) w
-unfolding fieldAt bitAt
-part-field bs t s w h =
-    number-ext _ _ w
-    (λ i l.
-    let a : (0 + i) / 8 < s = omega arith in
-    let b : t + (0 + i) / 8 ≡ (t * 8 + i) / 8 = omega arith in
-    let c : (0 + i) % 8 ≡ (t * 8 + i) % 8 = omega arith in
-    rw (getD-take s (drop t bs) ((0 + i) / 8) 0 a, getD-drop t bs ((0 + i) / 8) 0, b, c))
-
--- ---- the part
 
 module _ (bs ev : List ℕ) where
   -- where the block that is named stands among the candidates
@@ -113,8 +97,8 @@ module _ (bs ev : List ℕ) where
         record {
           size = simp (length-take, length-drop) (omega (arith, section-room, size));
           begins =
-              part-field ev (shownPart bs ev .start) (shownPart bs ev .size) 8 (omega (arith, size))
-              ∙ ap (λ (q : ℕ). fieldAt ev q 8) (whole-start ∙ omega arith)
+              fieldAt-part ev (shownPart bs ev .start) (shownPart bs ev .size) 0 8 (omega (arith, size))
+              ∙ ap (λ (q : ℕ). fieldAt ev q 8) (omega (arith, whole-start))
               ∙ passes .form .blocks namedAt named-within
               ∙ named-block;
         }

@@ -1,14 +1,13 @@
 -- What is read of the front of bytes is what is read of all of them. Assumes nothing.
-use mathlib.Core.Path.{_≡_, ap, fun-ext}
+use mathlib.Core.Path.{_≡_, ap, _∙_, fun-ext}
 use mathlib.Core.List.{List, [], _∷_}
-use Prim.Native.Nat.{ℕ, zero, suc, _+_, _-_, _*_, _/_, _%_, _^_, _≤_, _<_}
+use Prim.Native.Nat.{ℕ, zero, suc, _+_, _*_, _≤_}
 use native.Mathlib.Omega.{arith}
 use native.Mathlib.Nat.{suc-mul, mul-le-mul-right}
 use lib.Dec.{eqb}
 use lib.ListN.{getD, take}
-use lib.Seq.{getD-take}
-use Rattle.bits.specs.Bits.{bitAt, fieldAt}
-use Rattle.bits.proofs.Reading.{number-ext}
+use Rattle.bits.specs.Bits.{fieldAt}
+use Rattle.bits.proofs.Reading.{fieldAt-part}
 use Rattle.lists.specs.Lists.{sum}
 use Rattle.picture.specs.declared.Header.{Header}
 use Rattle.picture.specs.declared.Link.{Link}
@@ -30,15 +29,10 @@ rows-within f g p w k end l h = rows-same f g p w k (λ i s. h (p + i * w) (omeg
 
 -- of the first m bytes
 module _ (m : ℕ) (bs : List ℕ) where
-  -- a bit
-  bit-front : (i : ℕ) → i < m * 8 → bitAt (take m bs) i ≡ bitAt bs i
-  unfolding bitAt
-  bit-front i h = ap (λ (x : ℕ). x / 2 ^ (7 - i % 8) % 2) (getD-take m bs (i / 8) 0 (omega arith))
-
   -- a field
   field-front : (ws : List ℕ) (p : ℕ) → p + sum ws ≤ m * 8 → (j : ℕ) → fieldIn (take m bs) ws p j ≡ fieldIn bs ws p j
-  unfolding fieldIn fieldAt
-  field-front ws p h j = number-ext _ _ (getD ws j 0) (λ i l. bit-front _ (omega (arith, field-within ws j)))
+  unfolding fieldIn
+  field-front ws p h j = fieldAt-part bs 0 m _ _ (omega (arith, field-within ws j)) ∙ ap (λ (q : ℕ). fieldAt bs q (getD ws j 0)) (omega arith)
 
   -- the edition, and the header
   pub edition-front : 7 ≤ m → fieldIn (take m bs) (headerWidths edition1) 0 0 ≡ fieldIn bs (headerWidths edition1) 0 0
