@@ -12,10 +12,9 @@ use lib.Dec.{eqb, eqb→eq}
 use lib.ListN.{length, getD, length-take, length-drop}
 use Rattle.bits.specs.Bits.{fieldAt}
 use Rattle.bits.proofs.Reading.{fieldAt-part}
-use Rattle.lists.specs.Lists.{place, sum}
+use Rattle.lists.specs.Lists.{place, sum, Placed}
 use Rattle.lists.proofs.Tests.{eq-T}
 use Rattle.lists.proofs.Searches.{place-holds, place-first}
-use Rattle.lists.proofs.Picks.{Placed}
 use Rattle.picture.specs.Layout.{edition1, fieldIn}
 use Rattle.picture.specs.Picture.{pictureOf}
 use Rattle.network.specs.Words.{slotCount}

@@ -6,9 +6,9 @@ use Prim.Native.Nat.{ℕ, _≤_, _<_}
 use native.Mathlib.Omega.{arith}
 use native.Mathlib.Decide.{ℕ-discrete}
 use lib.ListN.{length, getD, length-map}
-use Rattle.lists.specs.Lists.{range}
+use Rattle.lists.specs.Lists.{range, Placed}
 use Rattle.lists.proofs.Ranges.{range-made}
-use Rattle.lists.proofs.Picks.{Placed, map-at}
+use Rattle.lists.proofs.Picks.{map-at}
 use Rattle.picture.specs.Picture.{Picture}
 use Rattle.network.specs.declared.Cost.{Cost}
 use Rattle.network.specs.Words.{blockCount, Candidate, CutsProtected, Admissible, Named}

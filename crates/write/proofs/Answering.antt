@@ -16,7 +16,8 @@ use Rattle.write.specs.Columns.{Lists}
 use Rattle.write.specs.Rules.{sizeFor}
 use Rattle.write.specs.Faults.{handedFaults, writeFault}
 use Rattle.write.specs.Answers.{writingOf, writing, writingNumbers, writtenBytes, Writes}
-use Rattle.write.specs.Inner.{Right, Written}
+use Rattle.write.specs.Inner.{Written}
+use Rattle.write.proofs.Right.{Right}
 use Rattle.write.proofs.Judged.{right-write}
 
 module _ (l : Lists) (buf : List ℕ) where

@@ -21,7 +21,7 @@ use Rattle.picture.specs.Rules.{noLink}
 use Rattle.picture.specs.Answers.{headerValues}
 use Rattle.write.specs.Columns.{Lists, Typed, endpointFrom, pictureFrom, headerFor}
 use Rattle.write.specs.Fields.{headerFields, slotFields, endpointFields, linkFields, pictureFields, pictureBytes}
-use Rattle.write.specs.Inner.{Right}
+use Rattle.write.proofs.Right.{Right}
 
 -- ---- what the fields take
 

@@ -19,7 +19,7 @@ use Rattle.picture.proofs.Judging.{right-sizes, sizes-right, right-counts, coun
 use Rattle.write.specs.Columns.{Lists, pictureFrom, headerFor}
 use Rattle.write.specs.Rules.{sizeFor, handedRules, writeRules}
 use Rattle.write.specs.Faults.{handedFaults, writeFault}
-use Rattle.write.specs.Inner.{Right}
+use Rattle.write.proofs.Right.{Right}
 
 module _ (l : Lists) where
   abbrev p : Picture

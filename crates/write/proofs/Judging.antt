@@ -14,7 +14,8 @@ use Rattle.write.specs.Columns.{Lists, slotFrom, endpointFrom, linkFrom,
 use Rattle.picture.proofs.Long.{size-small}
 use Rattle.write.specs.Rules.{sizeFor}
 use Rattle.write.specs.Faults.{writeFault}
-use Rattle.write.specs.Inner.{columnsHeader, pairFault, Right}
+use Rattle.write.specs.Inner.{columnsHeader, pairFault}
+use Rattle.write.proofs.Right.{Right}
 use Rattle.write.proofs.Judged.{write-right}
 
 -- the first faults of the states, of the links and of the service links

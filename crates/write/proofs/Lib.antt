@@ -1,4 +1,5 @@
 -- Laws of writing pictures.
+pub mod Right
 pub mod Fields
 pub mod Judged
 pub mod Reading

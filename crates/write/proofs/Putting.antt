@@ -29,6 +29,8 @@ use Rattle.write.specs.Columns.{Lists, slotFrom, linkFrom, pictureFrom, 
 use Rattle.write.specs.Fields.{headerFields, pictureFields, pictureBytes}
 use Rattle.write.specs.Rules.{sizeFor}
 use Rattle.write.specs.Inner.{columnsHeader, Follows, Room, SlotsFit, EndpointsFit, LinksFit, HeaderFits, Ready, Written}
+use Rattle.write.proofs.Right.{Right}
+use Rattle.write.proofs.Judged.{handed-right}
 use Rattle.write.proofs.Fields.{header-fits, header-of, slots-of, endpoints-of, links-of, services-of, header-ends, slots-end, endpoints-end, links-end, span-picture}
 use Rattle.write.proofs.Judging.{right-header, right-limited}
 
@@ -41,12 +43,15 @@ module _ {l : Lists} {h : Header} {buf : List ℕ} (r : Ready l h buf) where
   abbrev p : Picture
   p = pictureFrom l
 
+  right : Right l
+  right = handed-right l (r .right)
+
   -- the header by the columns is the picture's
   pub ready-header : h ≡ headerFor (pictureFrom l)
-  ready-header = r .header ∙ right-header (r .right)
+  ready-header = r .header ∙ right-header right
 
   pub ready-limited : Limited h
-  ready-limited = rw (r .header) (right-limited (r .right))
+  ready-limited = rw (r .header) (right-limited right)
 
   -- ---- room
 
@@ -70,9 +75,9 @@ module _ {l : Lists} {h : Header} {buf : List ℕ} (r : Ready l h buf) where
   states-small : (i : ℕ) → i < length (l .states) → getD (l .states) i 0 ≤ stateMax
   unfolding slotOf item headerFor pictureFrom slotFrom
   states-small i s =
-      let here = getD-zip slotFrom (l .states) (l .near) 0 false (slotOf p 0) i s (omega (arith, r .right .slots-even)) in
-      let long = length-zip slotFrom (l .states) (l .near) (r .right .slots-even) in
-      rw here at (r .right .states .state (suc i) (suc-le-suc zero-le) (omega (arith, long)))
+      let here = getD-zip slotFrom (l .states) (l .near) 0 false (slotOf p 0) i s (omega (arith, right .slots-even)) in
+      let long = length-zip slotFrom (l .states) (l .near) (right .slots-even) in
+      rw here at (right .states .state (suc i) (suc-le-suc zero-le) (omega (arith, long)))
 
   -- an end of a link, as it stands in the lists
   link-end : (pairs : List (List ℕ)) (f : Link → ℕ) {m : ℕ} → ((i : ℕ) → i < length (map linkFrom pairs) → f (getD (map linkFrom pairs) i noLink) ≤ m) → m < 2 ^ 8
@@ -83,7 +88,7 @@ module _ {l : Lists} {h : Header} {buf : List ℕ} (r : Ready l h buf) where
       omega (arith, named)
 
   slots-small : headerFor (pictureFrom l) .slots < 2 ^ 8
-  slots-small = omega (arith, r .right .sizes .slots-most)
+  slots-small = omega (arith, right .sizes .slots-most)
 
   -- the picture ends within the buffer
   pub ready-ends : endAt edition1 h ≤ length buf * 8
@@ -115,18 +120,18 @@ module _ {l : Lists} {h : Header} {buf : List ℕ} (r : Ready l h buf) where
     pub header-ready : HeaderFits h mid
     header-ready =
         let o = ordered h ready-limited in
-        record { room = omega (arith, ready-ends, slots-to, o); values = rw ready-header (header-fits l (r .right) (r .near-limit)) }
+        record { room = omega (arith, ready-ends, slots-to, o); values = rw ready-header (header-fits l right (r .near-limit)) }
 
     pub slots-ready : SlotsFit (slotsAt edition1) 0 (l .states) (l .near) mid
     unfolding slotsAt headerWidths sum
     slots-ready =
         let o = ordered h ready-limited in
-        record { even = r .right .slots-even; state = states-small; room = part-room (omega (arith, slots-to, o)) (lit< tt) }
+        record { even = right .slots-even; state = states-small; room = part-room (omega (arith, slots-to, o)) (lit< tt) }
 
     pub endpoints-ready : {held : ℕ} → held < 2 ^ (endpointsAt edition1 h % 8) → EndpointsFit (endpointsAt edition1 h) held (l .weights) (l .protected) mid
     endpoints-ready few =
         let o = ordered h ready-limited in
-        record { even = r .right .endpoints-even; room = part-room (omega (arith, endpoints-to, o)) few }
+        record { even = right .endpoints-even; room = part-room (omega (arith, endpoints-to, o)) few }
 
     pub links-ready : {held : ℕ} → held < 2 ^ (linksAt edition1 h % 8) → LinksFit (linksAt edition1 h) held 8 8 (l .links) mid
     unfolding pictureFrom linkWidths sum
@@ -134,8 +139,8 @@ module _ {l : Lists} {h : Header} {buf : List ℕ} (r : Ready l h buf) where
         let o = ordered h ready-limited in
         record {
           wide = omega arith;
-          from = link-end (l .links) (λ k. k .from) (r .right .links .from) slots-small;
-          to = link-end (l .links) (λ k. k .to) (r .right .links .to) slots-small;
+          from = link-end (l .links) (λ k. k .from) (right .links .from) slots-small;
+          to = link-end (l .links) (λ k. k .to) (right .links .to) slots-small;
           room = part-room (omega (arith, links-to, o)) few;
         }
 
@@ -144,8 +149,8 @@ module _ {l : Lists} {h : Header} {buf : List ℕ} (r : Ready l h buf) where
     services-ready few =
         record {
           wide = omega arith;
-          from = link-end (l .serviceLinks) (λ k. k .from) (r .right .serviceLinks .location) slots-small;
-          to = link-end (l .serviceLinks) (λ k. k .to) (r .right .serviceLinks .endpoint-most) (omega (arith, r .right .counts .endpoints-most));
+          from = link-end (l .serviceLinks) (λ k. k .from) (right .serviceLinks .location) slots-small;
+          to = link-end (l .serviceLinks) (λ k. k .to) (right .serviceLinks .endpoint-most) (omega (arith, right .counts .endpoints-most));
           room = part-room (omega (arith, services-to)) few;
         }
 

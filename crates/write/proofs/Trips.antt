@@ -29,7 +29,7 @@ use Rattle.write.specs.Rules.{sizeFor}
 use Rattle.write.specs.Faults.{writeFault}
 use Rattle.write.specs.Answers.{writing, writingOf, writingNumbers, writtenBytes}
 use Rattle.write.specs.Trips.{writtenPicture, ReadsBack, WritesBack}
-use Rattle.write.specs.Inner.{Right}
+use Rattle.write.proofs.Right.{Right}
 use Rattle.write.proofs.Fields.{span-picture, length-picture, picture-fits}
 use Rattle.write.proofs.Judged.{write-right, right-write}
 use Rattle.write.proofs.Reading.{Says, holds-picture, header-kept, accepted-held}

@@ -5,17 +5,17 @@ use mathlib.Core.Path.{_≡_}
 use Prim.Native.Nat.{ℕ, _+_, _*_, _%_, _^_, _≤_, _<_}
 use lib.ListN.{length, getD, drop}
 use Rattle.bits.specs.Pushing.{flushed}
-use Rattle.lists.specs.Lists.{sum}
+use Rattle.lists.specs.Lists.{sum, first}
 use Rattle.packing.specs.Packing.{Field}
 use Rattle.packing.specs.Holding.{Fit, Put}
 use Rattle.picture.specs.declared.Header.{Header}
 use Rattle.picture.specs.declared.Link.{Link}
 use Rattle.picture.specs.Layout.{edition1, slotWidths, endpointWidths, stateMax, slotsAt}
 use Rattle.picture.specs.Faults.{linkFault, serviceLinkFault}
-use Rattle.picture.specs.Rules.{Sizes, Counts, States, Links, ServiceLinks}
-use Rattle.write.specs.Columns.{Lists, handed, linkFrom, pictureFrom, headerFor}
+use Rattle.write.specs.Columns.{Lists, handed, linkFrom, pictureFrom}
 use Rattle.write.specs.Fields.{headerFields, pictureBytes}
 use Rattle.write.specs.Rules.{sizeFor}
+use Rattle.write.specs.Faults.{handedFaults}
 
 -- ---- judging
 
@@ -83,19 +83,9 @@ pub record HeaderFits (h : Header) (buf : List ℕ) : Type 0 where
   pub room : slotsAt edition1 ≤ length buf * 8
   pub values : Fit (headerFields edition1 h)
 
--- lists that keep their rules, by name
-pub record Right (l : Lists) : Type 0 where
-  pub slots-even : length (l .states) ≡ length (l .near)
-  pub sizes : Sizes edition1 (headerFor (pictureFrom l))
-  pub endpoints-even : length (l .weights) ≡ length (l .protected)
-  pub counts : Counts (headerFor (pictureFrom l))
-  pub states : States (headerFor (pictureFrom l) .slots) (pictureFrom l)
-  pub links : Links (headerFor (pictureFrom l) .slots) (pictureFrom l)
-  pub serviceLinks : ServiceLinks (headerFor (pictureFrom l) .slots) (headerFor (pictureFrom l) .endpoints) (pictureFrom l)
-
--- and there is room for their picture
+-- lists without a fault, with their header, and room for their picture
 pub record Ready (l : Lists) (h : Header) (buf : List ℕ) : Type 0 where
-  pub right : Right l
+  pub right : first (handedFaults l) ≡ 0
   pub header : h ≡ columnsHeader l
   pub near-limit : l .nearLimit < 2 ^ 8
   pub room : sizeFor l ≤ length buf

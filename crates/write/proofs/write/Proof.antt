@@ -5,7 +5,8 @@ use Rattle.lists.specs.Lists.{first}
 use Rattle.write.specs.Columns.{Lists, handed}
 use Rattle.write.specs.Rules.{sizeFor}
 use Rattle.write.specs.Faults.{handedFaults}
-use Rattle.write.specs.Inner.{columnsHeader, under, Right}
+use Rattle.write.specs.Inner.{columnsHeader, under}
+use Rattle.write.proofs.Right.{Right}
 use Rattle.write.proofs.Judged.{handed-right}
 use Rattle.write.proofs.Judging.{right-limited, right-size}
 use Rattle.write.proofs.Answering.{write-faulty, write-short, write-told}
@@ -28,9 +29,12 @@ judged : (c : tie.After-handed-fault) → c .handed-fault .result ≡ first (han
 unfolding under
 judged c = c .handed-fault .ensures
 
--- where there is none they keep their rules, and the header is theirs
+-- where there is none they keep their rules
+clean : (c : tie.Else1) → first (handedFaults (lists (c .before))) ≡ 0
+clean c = sym (judged (c .before)) ∙ c .if1 .left
+
 right : (c : tie.Else1) → Right (lists (c .before))
-right c = handed-right (lists (c .before)) (sym (judged (c .before)) ∙ c .if1 .left)
+right c = handed-right (lists (c .before)) (clean c)
 
 handed-fault-requires : tie.Need-handed-fault-requires
 unfolding columnsHeader under handed
@@ -51,15 +55,14 @@ size c = c .size-of .ensures ∙ right-size (right (c .before))
 returns-2 : tie.Need-returns-2
 returns-2 c =
     let k = c .before in
-    let j = k .before .before in
-    write-short (lists j) _ (sym (judged j) ∙ k .before .if1 .left) (omega (arith, c .if2 .taken, size k))
+    write-short (lists (k .before .before)) _ (clean (k .before)) (omega (arith, c .if2 .taken, size k))
 
 put-picture-requires : tie.Need-put-picture-requires
 unfolding columnsHeader under handed
 put-picture-requires c κs =
     let k = c .before .before in
     record {
-      right = right (k .before);
+      right = clean (k .before);
       header = refl;
       near-limit = start (k .before .before) .fits .near-limit .fits;
       room = omega (arith, c .before .if2 .left, size k);
