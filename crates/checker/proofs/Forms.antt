@@ -1,6 +1,6 @@
 -- The form of evidence: the code finds what the test says, which is what the rule says. Assumes nothing.
 use mathlib.Core.Path.{_≡_, refl, _∙_}
-use mathlib.Core.Bool.{Bool, true, false, _&&_, and-assoc, and-comm}
+use mathlib.Core.Bool.{Bool, true, false, _&&_, and-comm}
 use mathlib.Core.List.{List, [], _∷_, _++_}
 use Prim.Native.Nat.{ℕ, _+_, _≤_}
 use native.Mathlib.Omega.{arith}
@@ -16,13 +16,14 @@ use Rattle.picture.specs.Picture.{Picture}
 use Rattle.network.specs.Words.{slotCount}
 use Rattle.network.specs.Tests.{candidates}
 use Rattle.network.specs.Rows.{blockMarked, blocksMarked}
-use Rattle.evidence.specs.Checks.{formRight}
-use Rattle.checker.specs.Form.{headTest, sectionTest, sectionsTest, formTest}
+use Rattle.evidence.specs.Checks.{sectionRight, sectionsRight, formRight}
+use Rattle.checker.specs.Form.{FormOf}
 
--- the test of the form, by its head and its sections
-pub form-tested : (p : Picture) (ev : List ℕ) → formTest (slotCount p) ev (candidates p) ≡ formRight edition1 p ev
-unfolding formTest headTest sectionsTest sectionTest formRight
-form-tested p ev = and-comm (sectionsTest (slotCount p) ev (candidates p)) (headTest (slotCount p) ev (length (candidates p))) ∙ simp and-assoc
+-- what is found for a picture's candidates is what the check asks of its form
+pub form-found : (p : Picture) (ev : List ℕ) {right : Bool} {count : ℕ} → FormOf (slotCount p) ev (candidates p) right count
+    → (right ≡ formRight edition1 p ev) × (count ≡ length (candidates p))
+unfolding formRight
+form-found p ev f = (f .tested ∙ and-comm (sectionsRight edition1 (slotCount p) ev (candidates p)) _, f .counted)
 
 -- ---- the loop over the blocks
 
@@ -30,18 +31,18 @@ form-tested p ev = and-comm (sectionsTest (slotCount p) ev (candidates p)) (head
 pub record Forming (n : ℕ) (ev near : List ℕ) (size : ℕ) (right : Bool) (count b : ℕ) : Type 0 where
   pub few : count ≤ b
   pub counted : count ≡ length (blocksMarked near size b)
-  pub tested : right ≡ sectionsTest n ev (blocksMarked near size b)
+  pub tested : right ≡ sectionsRight edition1 n ev (blocksMarked near size b)
 
 module _ (n : ℕ) (ev near : List ℕ) (size : ℕ) where
   pub forming-begun : Forming n ev near size true 0 0
-  unfolding blocksMarked sectionsTest range filter all
+  unfolding blocksMarked sectionsRight range filter all
   forming-begun = record { few = omega arith; counted = refl; tested = refl }
 
-  sections-more : (cs : List ℕ) (b : ℕ) → sectionsTest n ev (cs ++ (b ∷ [])) ≡ (sectionsTest n ev cs && sectionTest n ev (length cs) b)
-  unfolding sectionsTest
+  sections-more : (cs : List ℕ) (b : ℕ) → sectionsRight edition1 n ev (cs ++ (b ∷ [])) ≡ (sectionsRight edition1 n ev cs && sectionRight edition1 n ev (length cs) b)
+  unfolding sectionsRight
   sections-more cs b =
-      let f : ℕ → Bool = λ i. sectionTest n ev i (getD (cs ++ (b ∷ [])) i 0) in
-      let same = all-same f (λ i. sectionTest n ev i (getD cs i 0)) 0 (length cs) (λ u l h. rw (List·getD-append cs (b ∷ []) 0 u (omega arith))) in
+      let f : ℕ → Bool = λ i. sectionRight edition1 n ev i (getD (cs ++ (b ∷ [])) i 0) in
+      let same = all-same f (λ i. sectionRight edition1 n ev i (getD cs i 0)) 0 (length cs) (λ u l h. rw (List·getD-append cs (b ∷ []) 0 u (omega arith))) in
       rw (length-append cs (b ∷ []), add-one (length cs), all-more f 0 (length cs), same, zero-add (length cs), getD-append-seam cs b [] 0)
 
   module _ {right : Bool} {count b : ℕ} (f : Forming n ev near size right count b) where
@@ -53,7 +54,7 @@ module _ (n : ℕ) (ev near : List ℕ) (size : ℕ) where
         record { few = omega (arith, f .few); counted = rw same (f .counted); tested = rw same (f .tested) }
 
     -- it is one, and its section is right or is not
-    pub forming-hit : {right′ : Bool} → blockMarked near size b ≡ true → right′ ≡ (right && sectionTest n ev count b)
+    pub forming-hit : {right′ : Bool} → blockMarked near size b ≡ true → right′ ≡ (right && sectionRight edition1 n ev count b)
         → Forming n ev near size right′ (count + 1) (b + 1)
     unfolding blocksMarked
     forming-hit e r =

@@ -1,11 +1,11 @@
 // The form of evidence for a picture: its length, the numbers of its head, and a section for each candidate.
 ghost use mathlib.Core.Path.{_≡_};
 ghost use Prim.Native.Nat.{_*_, _≤_};
-ghost use lib.ListN.{length};
 ghost use Rattle.rows.specs.Rows.{slotsMax};
-ghost use Rattle.picture.specs.Layout.{blocksMax};
+ghost use Rattle.picture.specs.Layout.{edition1, blocksMax};
 ghost use Rattle.network.specs.Rows.{blocksMarked};
-ghost use Rattle.checker.specs.Form.{headTest, sectionTest, formTest};
+ghost use Rattle.evidence.specs.Checks.{headRight, sectionRight};
+ghost use Rattle.checker.specs.Form.{FormOf};
 use picture::EDITION;
 use rows::WORDS;
 
@@ -18,7 +18,7 @@ pub struct Formed {
 // Whether section i is of block b and has a mark of 0 or 1.
 fn section_right(ev: &[u8], n: usize, i: usize, b: usize) -> bool
     requires { ⌜ (n ≤ slotsMax) × (i ≤ 255) ⌝ }
-    ensures { λ r. ⌜ r ≡ sectionTest n (now (ev .entry)) i b ⌝ }
+    ensures { λ r. ⌜ r ≡ sectionRight edition1 n (now (ev .entry)) i b ⌝ }
 {
     let w = evidence::section_of(ev, n, i);
     if w.block != b {
@@ -30,7 +30,7 @@ fn section_right(ev: &[u8], n: usize, i: usize, b: usize) -> bool
 // Whether length, edition, verdict and count are right for so many candidates.
 fn head_right(ev: &[u8], n: usize, count: usize) -> bool
     requires { ⌜ (n ≤ slotsMax) × (count ≤ 255) ⌝ }
-    ensures { λ r. ⌜ r ≡ headTest n (now (ev .entry)) count ⌝ }
+    ensures { λ r. ⌜ r ≡ headRight edition1 n (now (ev .entry)) count ⌝ }
 {
     if ev.len() != evidence::evidence_bytes(n, count) {
         return false;
@@ -48,7 +48,7 @@ fn head_right(ev: &[u8], n: usize, count: usize) -> bool
 // The form of evidence, for the candidates of so many blocks.
 pub fn form_of(ev: &[u8], n: usize, size: usize, blocks: usize, near: [u64; WORDS]) -> Formed
     requires { ⌜ (n ≤ slotsMax) × (blocks ≤ blocksMax) × (blocks * size ≤ n) ⌝ }
-    ensures { λ r. ⌜ (r .right ≡ formTest n (now (ev .entry)) (blocksMarked near size blocks)) × (r .count ≡ length (blocksMarked near size blocks)) ⌝ }
+    ensures { λ r. ⌜ FormOf n (now (ev .entry)) (blocksMarked near size blocks) (r .right) (r .count) ⌝ }
 {
     let mut right = true;
     let mut count: usize = 0;

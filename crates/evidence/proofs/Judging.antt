@@ -22,7 +22,7 @@ use Rattle.evidence.specs.Layout.{evidenceBytes}
 use Rattle.evidence.specs.declared.Choice.{Choice}
 use Rattle.evidence.specs.Canonical.{noCost, least, weighings}
 use Rattle.evidence.specs.Contents.{headIn, sectionIn, sectionForest}
-use Rattle.evidence.specs.Checks.{forestRight, formRight, verdictRight, isNamed}
+use Rattle.evidence.specs.Checks.{forestRight, headRight, sectionRight, sectionsRight, formRight, verdictRight, isNamed}
 use Rattle.evidence.specs.Rules.{Form, SectionCost, Verdict, chosen, none}
 use Rattle.lists.proofs.Every.{all-range, range-all}
 use Rattle.evidence.proofs.Least.{Chosen, Nothing, least-right, least-none, none-least}
@@ -33,28 +33,29 @@ use Rattle.evidence.proofs.Choosing.{least-loss, least-best, best-least
 module _ (e : Edition) (p : Picture) (ev : List ℕ) where
   -- what is asked of a section
   sectionForm : ℕ → Bool
-  sectionForm i = eqb (sectionIn e (slotCount p) ev i .block) (getD (candidates p) i 0) && leb (sectionIn e (slotCount p) ev i .mark) 1
+  sectionForm i = sectionRight e (slotCount p) ev i (getD (candidates p) i 0)
 
   pub right-form : T (formRight e p ev) → Form e p ev
-  unfolding formRight sectionForm
+  unfolding formRight headRight sectionsRight sectionRight sectionForm
   right-form t =
       let cs = candidates p in
-      let t1 = and-T (eqb (length ev) (evidenceBytes e (slotCount p) (length cs))) _ t in
+      let t0 = and-T (headRight e (slotCount p) ev (length cs)) (all sectionForm (range 0 (length cs))) t in
+      let t1 = and-T (eqb (length ev) (evidenceBytes e (slotCount p) (length cs))) _ (t0 .0) in
       let t2 = and-T (eqb (headIn ev .edition) (e .number)) _ (t1 .1) in
-      let t3 = and-T (leb (headIn ev .verdict) 1) _ (t2 .1) in
-      let t4 = and-T (eqb (headIn ev .count) (length cs)) (all sectionForm (range 0 (length cs))) (t3 .1) in
-      let each : (i : ℕ) → i < length cs → T (sectionForm i) = λ i h. all-range sectionForm 0 (length cs) (t4 .1) i zero-le (omega arith) in
+      let t3 = and-T (leb (headIn ev .verdict) 1) (eqb (headIn ev .count) (length cs)) (t2 .1) in
+      let each : (i : ℕ) → i < length cs → T (eqb (sectionIn e (slotCount p) ev i .block) (getD cs i 0)) × T (leb (sectionIn e (slotCount p) ev i .mark) 1) =
+      λ i h. and-T (eqb (sectionIn e (slotCount p) ev i .block) (getD cs i 0)) _ (all-range sectionForm 0 (length cs) (t0 .1) i zero-le (omega arith)) in
       record {
         size = eqb→eq _ _ (t1 .0);
         edition = eqb→eq _ _ (t2 .0);
         verdict = leb→le _ _ (t3 .0);
-        count = eqb→eq _ _ (t4 .0);
-        blocks = λ i h. eqb→eq _ _ (and-T (eqb (sectionIn e (slotCount p) ev i .block) (getD cs i 0)) (leb (sectionIn e (slotCount p) ev i .mark) 1) (each i h) .0);
-        marks = λ i h. leb→le _ _ (and-T (eqb (sectionIn e (slotCount p) ev i .block) (getD cs i 0)) (leb (sectionIn e (slotCount p) ev i .mark) 1) (each i h) .1);
+        count = eqb→eq _ _ (t3 .1);
+        blocks = λ i h. eqb→eq _ _ (each i h .0);
+        marks = λ i h. leb→le _ _ (each i h .1);
       }
 
   pub form-right : Form e p ev → T (formRight e p ev)
-  unfolding formRight sectionForm
+  unfolding formRight headRight sectionsRight sectionRight sectionForm
   form-right f =
       rw (eq-eqb _ _ (f .size), eq-eqb _ _ (f .edition), le-leb _ _ (f .verdict), eq-eqb _ _ (f .count))
       (range-all sectionForm 0 (length (candidates p))

@@ -4,7 +4,7 @@ use mathlib.Core.Path.{_≡_, ap, _∙_}
 use mathlib.Core.Bool.{Bool, not, _&&_}
 use mathlib.Core.List.{List, [], _∷_, _++_, map}
 use Prim.Native.Nat.{ℕ}
-use lib.Dec.{eqb, leb}
+use lib.Dec.{eqb}
 use lib.ListN.{length, getD}
 use Rattle.lists.specs.Lists.{range, on, first, all, flat}
 use Rattle.graph.specs.declared.Node.{Node}
@@ -17,10 +17,10 @@ use Rattle.network.specs.declared.Cost.{Cost}
 use Rattle.network.specs.Words.{slotCount, joins}
 use Rattle.network.specs.Repeats.{Repeated}
 use Rattle.network.proofs.Repeats.{repeats-all, same-slots, same-held, same-left, repeated-links, repeated-served-weight, repeated-weighed, repeated-candidates}
-use Rattle.evidence.specs.Layout.{sectionHeadWidths, evidenceBytes}
+use Rattle.evidence.specs.Layout.{sectionHeadWidths}
 use Rattle.evidence.specs.Canonical.{noCost, weighings, least, headFields, forestFields, forestOf, sectionFields, evidenceFields}
 use Rattle.evidence.specs.Contents.{headIn, sectionIn, firstForest, sectionForest}
-use Rattle.evidence.specs.Checks.{nodeRight, linkRight, forestRight, formRight, sectionFault, verdictRight, checkFault}
+use Rattle.evidence.specs.Checks.{nodeRight, linkRight, forestRight, headRight, sectionsRight, formRight, sectionFault, verdictRight, checkFault}
 
 module _ {p q : Picture} (r : Repeated p q) where
   pub repeated-weighings : weighings p ≡ weighings q
@@ -54,9 +54,7 @@ module _ {p q : Picture} (r : Repeated p q) where
         λ i.
         let cs : List ℕ = repeated-candidates r i in
         let n : ℕ = same-slots r i in
-        eqb (length ev) (evidenceBytes e n (length cs))
-        && (eqb (headIn ev .edition) (e .number) && (leb (headIn ev .verdict) 1 && (eqb (headIn ev .count) (length cs)
-        && all (λ k. eqb (sectionIn e n ev k .block) (getD cs k 0) && leb (sectionIn e n ev k .mark) 1) (range 0 (length cs)))))
+        headRight e n ev (length cs) && sectionsRight e n ev cs
 
     section-same : (k : ℕ) → sectionFault e p ev (weighings p) k ≡ sectionFault e q ev (weighings q) k
     unfolding sectionFault

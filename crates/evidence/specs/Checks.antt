@@ -42,14 +42,26 @@ forestRight p held xs = all (nodeRight (joins (p .links)) held xs) (range 1 (slo
 
 -- ---- the faults
 
--- 13: length, edition, verdict over 1, candidate count, a section's block, a mark over 1
+-- 13 of the head, for n slots and so many candidates: length, edition, verdict over 1, candidate count
+unfoldable pub headRight : Edition → ℕ → List ℕ → ℕ → Bool
+headRight e n ev count =
+    eqb (length ev) (evidenceBytes e n count)
+    && (eqb (headIn ev .edition) (e .number) && (leb (headIn ev .verdict) 1 && eqb (headIn ev .count) count))
+
+-- 13 of section i: its block is b, and its mark not over 1
+unfoldable pub sectionRight : Edition → ℕ → List ℕ → ℕ → ℕ → Bool
+sectionRight e n ev i b = eqb (sectionIn e n ev i .block) b && leb (sectionIn e n ev i .mark) 1
+
+-- 13 of the sections, for these candidates
+unfoldable pub sectionsRight : Edition → ℕ → List ℕ → List ℕ → Bool
+sectionsRight e n ev cs = all (λ i. sectionRight e n ev i (getD cs i 0)) (range 0 (length cs))
+
+-- 13 for a picture's candidates
 unfoldable pub formRight : Edition → Picture → List ℕ → Bool
 formRight e p ev =
     let cs : List ℕ = candidates p in
     let n : ℕ = slotCount p in
-    eqb (length ev) (evidenceBytes e n (length cs))
-    && (eqb (headIn ev .edition) (e .number) && (leb (headIn ev .verdict) 1 && (eqb (headIn ev .count) (length cs)
-    && all (λ i. eqb (sectionIn e n ev i .block) (getD cs i 0) && leb (sectionIn e n ev i .mark) 1) (range 0 (length cs)))))
+    headRight e n ev (length cs) && sectionsRight e n ev cs
 
 -- 14 and 15 of section i
 unfoldable pub sectionFault : Edition → Picture → List ℕ → List Cost → ℕ → ℕ

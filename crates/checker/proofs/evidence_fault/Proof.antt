@@ -17,8 +17,8 @@ use Rattle.evidence.specs.Canonical.{weighings}
 use Rattle.evidence.specs.Checks.{formRight, verdictRight}
 use Rattle.evidence.proofs.Fields.{candidates-few}
 use Rattle.checker.specs.Forests.{partsFault}
-use Rattle.checker.proofs.Forms.{form-tested}
 use Rattle.checker.proofs.Answering.{check-form, check-part, check-verdict, check-none, stated-weighings}
+use Rattle.checker.proofs.Forms.{form-found}
 use borrow.Author.Needs.{needs}
 use Rattle.checker.proofs.evidence_fault.Statement.{statement}
 use Rattle.checker.proofs.evidence_fault.Tie as tie
@@ -40,7 +40,7 @@ found c =
     let r = start c .pre in
     let e = marked-candidates (c .before .before .before .slot-rows .ensures) (read-block-size _ _ r) (sym (read-blocks _ _ r)) in
     let f = rw (e, ← read-slots _ _ r) at (c .form-of .ensures) in
-    (f .0 ∙ form-tested (shown c) (evidence c), f .1)
+    form-found (shown c) (evidence c) f
 
 formed : (c : tie.Else1) → formRight edition1 (shown (c .before)) (evidence (c .before)) ≡ true
 formed c = sym (found (c .before) .0) ∙ not-false _ (c .if1 .left)

@@ -6,7 +6,8 @@ use Prim.Native.Nat.{_-_, _≤_}
 use native.Mathlib.Omega.{arith}
 use native.Mathlib.Nat.{suc-mul, mul-le-mul-right}
 use borrow.Author.Tests.{not-true, not-false}
-use Rattle.checker.specs.Form.{sectionTest, formTest}
+use Rattle.picture.specs.Layout.{edition1}
+use Rattle.evidence.specs.Checks.{sectionRight}
 use Rattle.checker.proofs.Forms.{Forming, forming-begun, forming-miss, forming-hit}
 use borrow.Author.Needs.{needs}
 use Rattle.checker.proofs.form.form_of.Statement.{statement}
@@ -41,7 +42,7 @@ loop-less c = search needs
 
 -- a section that is wrong is remembered
 right-next : (c : tie.Joined2 Inv-loop μ-loop) → let l = c .before .before .before .before .before .before in let a = l .before .before .args in
-    c .if2 .right ≡ (l .loop .right && sectionTest (a .n) (a .ev .now) (l .loop .count) (l .loop .b))
+    c .if2 .right ≡ (l .loop .right && sectionRight edition1 (a .n) (a .ev .now) (l .loop .count) (l .loop .b))
 right-next c =
     let e = sym (c .before .section-right .ensures) in
     ⊎-elim (λ w. rw (w .1, e ∙ not-true _ (w .0 .taken), and-false)) (λ w. rw (w .1, e ∙ not-false _ (w .0 .left), and-true)) (c .if2 .came)
@@ -71,12 +72,10 @@ ended c =
     rw e at (c .before .loop .inv .1)
 
 returns : tie.Need-returns Inv-loop μ-loop
-unfolding formTest
-returns c = let f = ended (c .before .before) in (rw (← f .tested, c .before .if3 .taken, ← f .counted) (c .head-right .ensures), f .counted)
+returns c = let f = ended (c .before .before) in record { tested = rw (← f .tested, c .before .if3 .taken, ← f .counted) (c .head-right .ensures); counted = f .counted }
 
 returns-2 : tie.Need-returns-2 Inv-loop μ-loop
-unfolding formTest
-returns-2 c = let f = ended (c .before) in (rw (← f .tested, c .if3 .left), f .counted)
+returns-2 c = let f = ended (c .before) in record { tested = rw (← f .tested, c .if3 .left); counted = f .counted }
 
 pub form-of-spec : {M : Type 1} → statement M
 form-of-spec =

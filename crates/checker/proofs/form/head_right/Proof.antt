@@ -1,6 +1,6 @@
 -- `head_right` judges the head of evidence. Assumes nothing.
 use borrow.Author.Tests.{eq-eqb, ne-eqb, le-leb, lt-leb}
-use Rattle.checker.specs.Form.{headTest}
+use Rattle.evidence.specs.Checks.{headRight}
 use borrow.Author.Needs.{needs}
 use Rattle.checker.proofs.form.head_right.Statement.{statement}
 use Rattle.checker.proofs.form.head_right.Tie as tie
@@ -9,20 +9,20 @@ evidence-bytes-requires : tie.Need-evidence-bytes-requires
 evidence-bytes-requires c κs = search needs
 
 returns : tie.Need-returns
-unfolding headTest
+unfolding headRight
 returns c = rw (← c .before .evidence-bytes .ensures, ne-eqb _ _ (c .if1 .taken))
 
 head-of-requires : tie.Need-head-of-requires
 head-of-requires c κs = search needs
 
 returns-2 : tie.Need-returns-2
-unfolding headTest
+unfolding headRight
 returns-2 c =
     let l = c .before .before .before in
     rw (← l .before .evidence-bytes .ensures, eq-eqb _ _ (l .if1 .left), ← c .before .before .head-of .ensures, ne-eqb _ _ (c .if2 .taken))
 
 returns-3 : tie.Need-returns-3
-unfolding headTest
+unfolding headRight
 returns-3 c =
     let e = c .before .before in
     let l = e .before .before .before in
@@ -30,7 +30,7 @@ returns-3 c =
     rw (← l .before .evidence-bytes .ensures, eq-eqb _ _ (l .if1 .left), ← h .ensures, eq-eqb _ _ (e .if2 .left), lt-leb _ _ (c .if3 .taken))
 
 returns-4 : tie.Need-returns-4
-unfolding headTest
+unfolding headRight
 returns-4 c =
     let e = c .before .before .before in
     let l = e .before .before .before in
