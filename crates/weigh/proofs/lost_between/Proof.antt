@@ -29,30 +29,32 @@ Inv-loop services weights d after protected gone weight₀ mark₀ c₀ weight m
 abbrev μ-loop : tie.MeasureT-loop
 μ-loop services weights d after protected gone weight₀ mark₀ c₀ weight mark c = d + 1 - c
 
+-- the places of the code: the loop's test, and where the endpoint at hand is found lost or not
+abbrev turn : tie.After-is-lost Inv-loop μ-loop → tie.At-loop Inv-loop μ-loop
+turn c = c .before .before .before
+
+abbrev looked : tie.Joined2 Inv-loop μ-loop → tie.After-is-lost Inv-loop μ-loop
+looked c = c .before .before .before .before
+
 -- a lost endpoint's weight is added
-weight-next : (c : tie.Joined1 Inv-loop μ-loop) → let l = c .before .before .before .before in
+weight-next : (c : tie.Joined1 Inv-loop μ-loop) → let l = turn (c .before) in
     c .if1 .weight ≡ l .loop .weight + on (c .before .is-lost .result) (getD (l .before .before .args .weights .now) (l .loop .c) 0)
 unfolding on
 weight-next c =
-    let l = c .before .before .before .before .loop in
-    let w = getD (c .before .before .before .before .before .before .args .weights .now) (l .c) 0 in
-    ⊎-elim
-    (λ x. x .2 ∙ ap (λ (b : Bool). l .weight + on b w) (sym (x .0 .taken)))
-    (λ x. x .1 ∙ sym (ap (λ (b : Bool). l .weight + on b w) (x .0 .left) ∙ add-zero (l .weight)))
-    (c .if1 .came)
+    let l = turn (c .before) in
+    let sum : Bool → ℕ = λ b. l .loop .weight + on b (getD (l .before .before .args .weights .now) (l .loop .c) 0) in
+    ⊎-elim (λ x. x .2 ∙ ap sum (sym (x .0 .taken))) (λ x. x .1 ∙ sym (ap sum (x .0 .left) ∙ add-zero (l .loop .weight))) (c .if1 .came)
 
 -- a lost protected endpoint sets the mark
-mark-next : (c : tie.Joined2 Inv-loop μ-loop)
-    → let l = c .before .before .before .before .before .before .before in
-    let hit : Bool = marked (l .before .before .args .t3) (l .loop .c) && c .before .before .before .before .is-lost .result in
+mark-next : (c : tie.Joined2 Inv-loop μ-loop) → let k = looked c in let l = turn k in
+    let hit : Bool = marked (l .before .before .args .t3) (l .loop .c) && k .is-lost .result in
     on hit 1 + on (not hit) (l .loop .mark) ≡ c .if2 .mark
 unfolding on
 mark-next c =
-    let l = c .before .before .before .before .before .before .before .loop in
-    ⊎-elim
-    (λ x. ap (λ (b : Bool). on b 1 + on (not b) (l .mark)) (sym (c .before .is-lost-protected .ensures) ∙ x .0 .taken) ∙ sym (x .1))
-    (λ x. ap (λ (b : Bool). on b 1 + on (not b) (l .mark)) (sym (c .before .is-lost-protected .ensures) ∙ x .0 .left) ∙ zero-add (l .mark) ∙ sym (x .1))
-    (c .if2 .came)
+    let mark = turn (looked c) .loop .mark in
+    let set : Bool → ℕ = λ b. on b 1 + on (not b) mark in
+    let hit = sym (c .before .is-lost-protected .ensures) in
+    ⊎-elim (λ x. ap set (hit ∙ x .0 .taken) ∙ sym (x .1)) (λ x. ap set (hit ∙ x .0 .left) ∙ zero-add mark ∙ sym (x .1)) (c .if2 .came)
 
 minus-requires : tie.Need-minus-requires Inv-loop μ-loop
 minus-requires c κs = search needs
@@ -78,9 +80,8 @@ element-copy-out-weight c = search needs
 
 add-weight : tie.Need-add-weight Inv-loop μ-loop
 add-weight c =
-    let l = c .before .before .before .before .before .loop in
-    let p = c .before .before .before .before .before .before in
-    omega (arith, l .inv .picking (p .before .args .before) (p .minus .ensures) .small, l .inv .small .weight (l .c))
+    let l = turn (c .before .before) in
+    omega (arith, l .loop .inv .picking _ (l .before .minus .ensures) .small, l .loop .inv .small .weight (l .loop .c))
 
 is-lost-protected-requires : tie.Need-is-lost-protected-requires Inv-loop μ-loop
 is-lost-protected-requires c κs = search needs
@@ -93,15 +94,14 @@ loop-less c = search needs
 
 loop-again : tie.Need-loop-again Inv-loop μ-loop
 loop-again c =
-    let l = c .before .before .before .before .before .before .before .loop in
+    let l = turn (looked c) .loop in
     record {
       within = omega arith;
       few = l .inv .few;
       many = l .inv .many;
       small = l .inv .small;
-      picking =
-          λ before m.
-          picking-next _ _ _ _ _ (l .weight) (l .mark) _ _ (l .c) _ (l .inv .picking before m) (l .inv .small .weight (l .c)) (c .before .before .before .before .is-lost .ensures before m)
+      picking = λ before m.
+          picking-next _ _ _ _ _ (l .weight) (l .mark) _ _ (l .c) _ (l .inv .picking before m) (l .inv .small .weight (l .c)) (looked c .is-lost .ensures before m)
           (weight-next (c .before .before .before)) (mark-next c);
     }
 
