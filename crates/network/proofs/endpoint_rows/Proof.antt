@@ -31,6 +31,10 @@ Inv-loop s h weights₀ d protected₀ c₀ weights protected c = Loop s h weigh
 abbrev μ-loop : tie.MeasureT-loop
 μ-loop s h weights₀ d protected₀ c₀ weights protected c = h .endpoints + 1 - c
 
+-- the loop's test, before the endpoint at hand is read
+abbrev turn : tie.After-endpoint-protected Inv-loop μ-loop → tie.At-loop Inv-loop μ-loop
+turn c = c .before .before .before
+
 few : (c : tie.At-loop Inv-loop μ-loop) → c .before .before .args .h .endpoints ≤ endpointsMax
 few c = read-limited _ _ (c .loop .inv .read) .counts .endpoints-most
 
@@ -38,21 +42,17 @@ few c = read-limited _ _ (c .loop .inv .read) .counts .endpoints-most
 weight : (c : tie.After-endpoint-weight Inv-loop μ-loop) → let l = c .before .before in
     c .endpoint-weight .result ≡ weightOf (pictureOf (l .before .before .args .s .now)) (l .loop .c)
 unfolding weightOf
-weight c =
-    let l = c .before .before .loop in
-    c .endpoint-weight .ensures ∙ ap (λ (p : Picture). endpointOf p (l .c) .weight) (read-picture _ _ (l .inv .read))
+weight c = let l = c .before .before .loop in c .endpoint-weight .ensures ∙ ap (λ (p : Picture). endpointOf p (l .c) .weight) (read-picture _ _ (l .inv .read))
 
-protected : (c : tie.After-endpoint-protected Inv-loop μ-loop) → let l = c .before .before .before in
+protected : (c : tie.After-endpoint-protected Inv-loop μ-loop) → let l = turn c in
     endpointOf (pictureOf (l .before .before .args .s .now)) (l .loop .c) .protected ≡ c .endpoint-protected .result
-protected c =
-    let l = c .before .before .before .loop in
-    sym (c .endpoint-protected .ensures ∙ ap (λ (p : Picture). endpointOf p (l .c) .protected) (read-picture _ _ (l .inv .read)))
+protected c = let l = turn c .loop in sym (c .endpoint-protected .ensures ∙ ap (λ (p : Picture). endpointOf p (l .c) .protected) (read-picture _ _ (l .inv .read)))
 
 -- the endpoint at hand is looked at, and marked if it is protected
-protected-next : (c : tie.Joined1 Inv-loop μ-loop) → let l = c .before .before .before .before in
+protected-next : (c : tie.Joined1 Inv-loop μ-loop) → let l = turn (c .before) in
     Scanned (λ u. endpointOf (pictureOf (l .before .before .args .s .now)) u .protected) (c .if1 .protected) (l .loop .c + 1)
 protected-next c =
-    let l = c .before .before .before .before .loop in
+    let l = turn (c .before) .loop in
     ⊎-elim
     (λ w. rw (w .3) (scanned-hit _ _ _ (l .c) (l .inv .some) (l .inv .protected) (protected (c .before) ∙ w .0 .taken) (w .2 .ensures)))
     (λ w. rw (w .1) (scanned-miss _ _ (l .c) (l .inv .some) (l .inv .protected) (protected (c .before) ∙ w .0 .left)))
@@ -75,27 +75,27 @@ endpoint-protected-requires : tie.Need-endpoint-protected-requires Inv-loop μ-l
 endpoint-protected-requires c κs = (read-limited _ _ (c .before .before .loop .inv .read), c .before .before .loop .inv .some, omega arith)
 
 cast-weights : tie.Need-cast-weights Inv-loop μ-loop
-cast-weights c = omega (arith, weight (c .before), weight-small (c .before .before .before .before .before .args .s .now) (c .before .before .before .loop .c))
+cast-weights c = let l = turn c in omega (arith, weight (c .before), weight-small (l .before .before .args .s .now) (l .loop .c))
 
 mul-weights : tie.Need-mul-weights Inv-loop μ-loop
-mul-weights c = omega (arith, few (c .before .before .before))
+mul-weights c = omega (arith, few (turn c))
 
 element-write-weights : tie.Need-element-write-weights Inv-loop μ-loop
-element-write-weights c = omega (arith, few (c .before .before .before))
+element-write-weights c = omega (arith, few (turn c))
 
 add-requires : tie.Need-add-requires Inv-loop μ-loop
-add-requires c κs = omega (arith, few (c .before .before .before .before .before))
+add-requires c κs = omega (arith, few (turn (c .before .before)))
 
 add-c : tie.Need-add-c Inv-loop μ-loop
-add-c c = omega (arith, few (c .before .before .before .before))
+add-c c = omega (arith, few (turn (c .before)))
 
 loop-less : tie.Need-loop-less Inv-loop μ-loop
 loop-less c = search needs
 
 loop-again : tie.Need-loop-again Inv-loop μ-loop
 loop-again c =
-    let l = c .before .before .before .before .loop in
-    let few-left : l .c ≤ endpointsMax = omega (arith, few (c .before .before .before .before)) in
+    let l = turn (c .before) .loop in
+    let few-left : l .c ≤ endpointsMax = omega (arith, few (turn (c .before))) in
     record {
       some = omega arith;
       within = omega arith;

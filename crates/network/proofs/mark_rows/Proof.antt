@@ -61,6 +61,10 @@ Inv-loop s h count services table₀ i₀ table i = Linking (rowsFor services) (
 abbrev μ-loop : tie.MeasureT-loop
 μ-loop s h count services table₀ i₀ table i = count - i
 
+-- where the function begins
+abbrev start : tie.At-loop Inv-loop μ-loop → tie.Start Inv-loop μ-loop
+start c = c .before .before
+
 loop-holds : tie.Need-loop-holds Inv-loop μ-loop
 loop-holds c =
     let a = c .before .args in
@@ -68,41 +72,38 @@ loop-holds c =
 
 nth-service-link-requires : tie.Need-nth-service-link-requires Inv-loop μ-loop
 nth-service-link-requires c κs =
-    let a = c .before .before .before .before .args in
-    let p = c .before .before .before .before .pre in
-    (read-limited _ _ (p .0), omega (arith, p .1, ap (λ (b : Bool). countOf b (a .h)) (c .if1 .taken)))
+    let s = start (c .before .before) in
+    (read-limited _ _ (s .pre .0), omega (arith, s .pre .1, ap (λ (b : Bool). countOf b (s .args .h)) (c .if1 .taken)))
 
 mark-requires : tie.Need-mark-requires Inv-loop μ-loop
 mark-requires c κs =
-    let a = c .before .before .before .before .before .before .args in
-    let p = c .before .before .before .before .before .before .pre in
-    let l = c .before .before .before .before .loop in
-    let k = read-services _ _ (p .0) in
-    let z = read-sizes _ _ (p .0) in
-    let n = read-limited _ _ (p .0) in
-    let many = l .inv .many ∙ ap rowsFor (c .before .before .if1 .taken) in
-    let below = nth-service-link-requires (c .before .before) κs .1 in
-    let small : l .i < length (pictureOf (a .s .now) .serviceLinks) = omega (arith, read-services-length _ _ (p .0), below) in
-    rw (c .before .nth-service-link .ensures, read-picture _ _ (p .0))
+    let t = c .before .before in
+    let s = start (t .before .before) in
+    let l = t .before .before .loop in
+    let k = read-services _ _ (s .pre .0) in
+    let n = read-limited _ _ (s .pre .0) in
+    let many = l .inv .many ∙ ap rowsFor (t .if1 .taken) in
+    let below = nth-service-link-requires t κs .1 in
+    let small : l .i < length (pictureOf (s .args .s .now) .serviceLinks) = omega (arith, read-services-length _ _ (s .pre .0), below) in
+    rw (c .before .nth-service-link .ensures, read-picture _ _ (s .pre .0))
     (omega (arith, many, n .counts .endpoints-most, k .endpoint-most (l .i) small), omega (arith, k .location (l .i) small))
 
 nth-link-requires : tie.Need-nth-link-requires Inv-loop μ-loop
 nth-link-requires c κs =
-    let a = c .before .before .before .before .args in
-    let p = c .before .before .before .before .pre in
-    (read-limited _ _ (p .0), omega (arith, p .1, ap (λ (b : Bool). countOf b (a .h)) (c .if1 .left)))
+    let s = start (c .before .before) in
+    (read-limited _ _ (s .pre .0), omega (arith, s .pre .1, ap (λ (b : Bool). countOf b (s .args .h)) (c .if1 .left)))
 
 mark-requires-2 : tie.Need-mark-requires-2 Inv-loop μ-loop
 mark-requires-2 c κs =
-    let a = c .before .before .before .before .before .before .args in
-    let p = c .before .before .before .before .before .before .pre in
-    let l = c .before .before .before .before .loop in
-    let k = read-links _ _ (p .0) in
-    let z = read-sizes _ _ (p .0) in
-    let many = l .inv .many ∙ ap rowsFor (c .before .before .if1 .left) in
-    let below = nth-link-requires (c .before .before) κs .1 in
-    let small : l .i < length (pictureOf (a .s .now) .links) = omega (arith, read-links-length _ _ (p .0), below) in
-    rw (c .before .nth-link .ensures, read-picture _ _ (p .0)) (omega (arith, many, k .from (l .i) small), omega (arith, k .to (l .i) small))
+    let e = c .before .before in
+    let s = start (e .before .before) in
+    let l = e .before .before .loop in
+    let k = read-links _ _ (s .pre .0) in
+    let z = read-sizes _ _ (s .pre .0) in
+    let many = l .inv .many ∙ ap rowsFor (e .if1 .left) in
+    let below = nth-link-requires e κs .1 in
+    let small : l .i < length (pictureOf (s .args .s .now) .links) = omega (arith, read-links-length _ _ (s .pre .0), below) in
+    rw (c .before .nth-link .ensures, read-picture _ _ (s .pre .0)) (omega (arith, many, k .from (l .i) small), omega (arith, k .to (l .i) small))
 
 add-i : tie.Need-add-i Inv-loop μ-loop
 add-i c = search needs
@@ -112,30 +113,28 @@ loop-less c = search needs
 
 loop-again : tie.Need-loop-again Inv-loop μ-loop
 loop-again c =
-    let a = c .before .before .before .before .args in
-    let p = c .before .before .before .before .pre in
+    let s = start (c .before .before) in
     let l = c .before .before .loop in
-    let marks = marksOf (a .services) (pictureOf (a .s .now)) in
-    let small : l .i < length marks = omega (arith, long _ _ (p .0) (a .services), p .1) in
+    let marks = marksOf (s .args .services) (pictureOf (s .args .s .now)) in
+    let small : l .i < length marks = omega (arith, long _ _ (s .pre .0) (s .args .services), s .pre .1) in
     ⊎-elim
     (λ w.
-    let read = service _ _ (p .0) _ _ _ (w .0 .taken) (w .1 .ensures) in
+    let read = service _ _ (s .pre .0) _ _ _ (w .0 .taken) (w .1 .ensures) in
     rw (w .5) (linking-next _ marks (l .table) _ (l .i) (turned (w .1 .result)) (l .inv) small read (w .3 .ensures)))
     (λ w.
-    let read = link _ _ (p .0) _ _ _ (w .0 .left) (w .1 .ensures) in
+    let read = link _ _ (s .pre .0) _ _ _ (w .0 .left) (w .1 .ensures) in
     rw (w .5) (linking-next _ marks (l .table) _ (l .i) (w .1 .result) (l .inv) small read (w .3 .ensures)))
     (c .if1 .came)
 
 same-length : tie.Need-same-length Inv-loop μ-loop
-same-length c = c .before .loop .inv .many ∙ sym (c .before .before .before .pre .2 .many)
+same-length c = c .before .loop .inv .many ∙ sym (start (c .before) .pre .2 .many)
 
 returns : tie.Need-returns Inv-loop μ-loop
 returns c =
-    let a = c .before .before .before .args in
-    let p = c .before .before .before .pre in
+    let s = start (c .before) in
     let l = c .before .loop in
-    let marked = linking-ended _ _ (l .table) (l .i) (l .inv) (omega (arith, long _ _ (p .0) (a .services), p .1)) in
-    all-marked (a .services) (pictureOf (a .s .now)) (l .table) marked
+    let marked = linking-ended _ _ (l .table) (l .i) (l .inv) (omega (arith, long _ _ (s .pre .0) (s .args .services), s .pre .1)) in
+    all-marked (s .args .services) (pictureOf (s .args .s .now)) (l .table) marked
 
 pub mark-rows-spec : {M : Type 1} → statement M
 mark-rows-spec =
