@@ -23,10 +23,17 @@ use borrow.Author.Needs.{needs}
 use Rattle.checker.proofs.evidence_fault.Statement.{statement}
 use Rattle.checker.proofs.evidence_fault.Tie as tie
 
--- the picture and the evidence
-abbrev start : tie.After-form-of → tie.Start
-start c = c .before .before .before .before .before .before
+-- the places of the code, each from the next
+abbrev looked : tie.After-near → tie.After-slot-rows
+looked c = c .before .before
 
+abbrev start : tie.After-form-of → tie.Start
+start c = looked (c .before) .before .before .before
+
+abbrev right : tie.After-verdict-right → tie.Else1
+right c = c .before .before .before
+
+-- the picture and the evidence
 abbrev shown : tie.After-form-of → Picture
 shown c = pictureOf (start c .args .s .now)
 
@@ -49,10 +56,10 @@ formed c = sym (found (c .before) .0) ∙ not-false _ (c .if1 .left)
 clean : (c : tie.Else2) → let f = c .before .before .before in 0 ≡ partsFault (start f .args .s .now) (evidence f)
 clean c = sym (c .if2 .left) ∙ c .before .parts-fault .ensures
 
-judged : (c : tie.After-verdict-right) → let f = c .before .before .before .before in
+judged : (c : tie.After-verdict-right) → let f = right c .before in
     c .verdict-right .result ≡ verdictRight (evidence f) (weighings (shown f))
 judged c =
-    let e = c .before .before .before in
+    let e = right c in
     let r = start (e .before) .pre in
     c .verdict-right .ensures
     ∙ ap (verdictRight (evidence (e .before))) (stated-weighings _ _ (r .accepted) (formed e) (clean (c .before)) (read-slots _ _ r) (found (e .before) .1))
@@ -61,20 +68,16 @@ slot-rows-requires : tie.Need-slot-rows-requires
 slot-rows-requires c κs = search needs
 
 div-form-of : tie.Need-div-form-of
-div-form-of c = omega (arith, read-sizes _ _ (c .before .before .before .before .before .pre) .size-some)
+div-form-of c = omega (arith, read-sizes _ _ (looked c .before .before .before .pre) .size-some)
 
 form-of-requires : tie.Need-form-of-requires
-form-of-requires c κs =
-    let z = read-sizes _ _ (c .before .before .before .before .before .pre) in
-    (z .slots-most, z .blocks-most, div-mul-le-self _ _)
+form-of-requires c κs = let z = read-sizes _ _ (looked c .before .before .before .pre) in (z .slots-most, z .blocks-most, div-mul-le-self _ _)
 
 returns : tie.Need-returns
 returns c = check-form _ _ (start (c .before) .pre .accepted) (sym (found (c .before) .0) ∙ not-true _ (c .if1 .taken))
 
 parts-fault-requires : tie.Need-parts-fault-requires
-parts-fault-requires c κs =
-    let s = c .before .before .before .before .slot-rows in
-    (start (c .before) .pre, (s .result .near, s .ensures), formed c, found (c .before) .1)
+parts-fault-requires c κs = (start (c .before) .pre, (_, looked (c .before .before) .slot-rows .ensures), formed c, found (c .before) .1)
 
 returns-2 : tie.Need-returns-2
 returns-2 c = let e = c .before .before in check-part _ _ (start (e .before) .pre .accepted) (formed e) (c .if2 .taken) (c .before .parts-fault .ensures)
@@ -86,14 +89,10 @@ verdict-right-requires c κs =
     (read-sizes _ _ r .slots-most, omega (arith, found f .1, candidates-few _ (r .accepted)))
 
 returns-3 : tie.Need-returns-3
-returns-3 c =
-    let e = c .before .before .before .before in
-    check-none _ _ (start (e .before) .pre .accepted) (formed e) (clean (c .before .before)) (sym (judged (c .before)) ∙ c .if3 .taken)
+returns-3 c = let v = c .before in check-none _ _ (start (right v .before) .pre .accepted) (formed (right v)) (clean (v .before)) (sym (judged v) ∙ c .if3 .taken)
 
 returns-4 : tie.Need-returns-4
-returns-4 c =
-    let e = c .before .before .before .before in
-    check-verdict _ _ (start (e .before) .pre .accepted) (formed e) (clean (c .before .before)) (sym (judged (c .before)) ∙ c .if3 .left)
+returns-4 c = let v = c .before in check-verdict _ _ (start (right v .before) .pre .accepted) (formed (right v)) (clean (v .before)) (sym (judged v) ∙ c .if3 .left)
 
 pub evidence-fault-spec : {M : Type 1} → statement M
 evidence-fault-spec =

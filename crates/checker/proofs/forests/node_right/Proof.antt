@@ -25,23 +25,27 @@ forest c = forestIn edition1 (c .args .n) (c .args .ev .now) (c .args .q)
 handed : (c : tie.Start) → nodeOf (forest c) (c .args .v) ≡ c .args .x
 handed c = node-read _ _ _ _ (c .pre .0 .1) (c .pre .0 .2) ∙ sym (c .pre .1)
 
+-- where the function begins, and where the slot is found to be held
+abbrev start : tie.Else2 → tie.Start
+start c = c .before .before .before .before
+
+abbrev held : tie.Else4 → tie.Else2
+held c = c .before .before .before .before
+
 -- the slot is held, and a link leads to it from its parent
-holds : (c : tie.Else2) → let a = c .before .before .before .before .args in heldIn (a .held .now) (a .v) ≡ true
-holds c = sym (slot-held _ _ (omega (arith, c .before .before .before .before .pre .0 .1))) ∙ sym (c .before .has .ensures) ∙ not-false _ (c .if2 .left)
+holds : (c : tie.Else2) → let a = start c .args in heldIn (a .held .now) (a .v) ≡ true
+holds c = sym (slot-held _ _ (omega (arith, start c .pre .0 .1))) ∙ sym (c .before .has .ensures) ∙ not-false _ (c .if2 .left)
 
-abbrev start : tie.Else4 → tie.Start
-start c = c .before .before .before .before .before .before .before .before
-
-links : (c : tie.Else4) → linkedIn (start c .args .links .now) (start c .args .x .parent) (start c .args .v) ≡ true
+links : (c : tie.Else4) → let a = start (held c) .args in linkedIn (a .links .now) (a .x .parent) (a .v) ≡ true
 unfolding linkedIn
 links c = sym (c .before .has2 .ensures) ∙ not-false _ (c .if4 .left)
 
 -- the node of a parent that is a slot
-some : (c : tie.Else5) → 1 ≤ start (c .before) .args .x .parent
+some : (c : tie.Else5) → 1 ≤ start (held (c .before)) .args .x .parent
 some c = omega (arith, c .if5 .left)
 
-above : (c : tie.After-node-at) → let s = start (c .before .before) in nodeOf (forest s) (s .args .x .parent) ≡ c .node-at .result
-above c = node-read _ _ _ _ (some (c .before)) (c .before .before .before .before .before .if3 .left) ∙ sym (c .node-at .ensures)
+above : (c : tie.After-node-at) → let s = start (held (c .before .before)) in nodeOf (forest s) (s .args .x .parent) ≡ c .node-at .result
+above c = let l = c .before .before in node-read _ _ _ _ (some (c .before)) (l .before .before .before .if3 .left) ∙ sym (c .node-at .ensures)
 
 returns : tie.Need-returns
 returns c = node-outside _ _ _ _ (handed (c .before .before)) (c .if1 .taken)
@@ -56,9 +60,7 @@ returns-2 c =
     node-not-held _ _ _ _ (handed s) (c .before .before .if1 .left) out
 
 returns-3 : tie.Need-returns-3
-returns-3 c =
-    node-parent-out _ _ _ _ (handed (c .before .before .before .before .before)) (c .before .before .before .if1 .left)
-    (above-in _ _ (rw forest-length (c .if3 .taken)))
+returns-3 c = node-parent-out _ _ _ _ (handed (start (c .before))) (c .before .before .before .if1 .left) (above-in _ _ (rw forest-length (c .if3 .taken)))
 
 mul-has : tie.Need-mul-has
 mul-has c = search needs
@@ -72,36 +74,34 @@ has-requires-2 c κs = search needs
 returns-4 : tie.Need-returns-4
 unfolding linkedIn
 returns-4 c =
-    let e = c .before .before .before .before .before .before in
-    node-not-linked _ _ _ _ (handed (e .before .before)) (e .if1 .left) (sym (c .before .has2 .ensures) ∙ not-true _ (c .if4 .taken))
+    let e = c .before .before .before .before in
+    node-not-linked _ _ _ _ (handed (start e)) (e .before .before .if1 .left) (sym (c .before .has2 .ensures) ∙ not-true _ (c .if4 .taken))
 
 returns-5 : tie.Need-returns-5
 returns-5 c =
-    let l = c .before in
-    let e = l .before .before .before .before in
-    node-root _ _ _ _ (handed (start l)) (e .before .before .if1 .left) (holds e) (links l) (c .if5 .taken)
+    let e = held (c .before) in
+    node-root _ _ _ _ (handed (start e)) (e .before .before .if1 .left) (holds e) (links (c .before)) (c .if5 .taken)
 
 node-at-requires : tie.Need-node-at-requires
 node-at-requires c κs = search needs
 
 returns-6 : tie.Need-returns-6
 returns-6 c =
-    let l = c .before .before .before in
-    let e = l .before .before .before .before .before .before in
-    node-parent-out _ _ _ _ (handed (start l)) (e .if1 .left)
+    let e = held (c .before .before .before) in
+    node-parent-out _ _ _ _ (handed (start e)) (e .before .before .if1 .left)
     (slot-in _ _ (some (c .before .before)) ∙ rw (above (c .before), eq-eqb _ _ (c .if6 .taken)))
 
 add-result : tie.Need-add-result
 add-result c =
-    let a = start (c .before .before .before) .args in
+    let a = start (held (c .before .before .before)) .args in
     rw (c .before .node-at .ensures) (let d = depth-small (a .ev .now) (a .q) (a .x .parent) in omega arith)
 
 returns-7 : tie.Need-returns-7
 returns-7 c =
     let l = c .before .before .before in
-    let e = l .before .before .before .before in
+    let e = held l in
     rw (← above (c .before))
-    (node-depths _ _ _ _ (handed (start l)) (e .before .before .if1 .left) (holds e) (links l)
+    (node-depths _ _ _ _ (handed (start e)) (e .before .before .if1 .left) (holds e) (links l)
     (slot-in _ _ (some (c .before .before)) ∙ rw (above (c .before), ne-eqb _ _ (c .if6 .left))))
 
 pub node-right-spec : {M : Type 1} → statement M

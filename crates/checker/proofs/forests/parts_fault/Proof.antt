@@ -57,28 +57,40 @@ Inv-check s ev held count n size d links services weights protected none now₀ 
 abbrev μ-check : tie.MeasureT-check
 μ-check s ev held count n size d links services weights protected none now₀ fault₀ k₀ now fault k = count + 1 - k
 
-link-rows-requires :
-    tie.Need-link-rows-requires Inv-loop μ-loop Inv-loop2 μ-loop2 Inv-check μ-check
-link-rows-requires c κs = (c .before .before .before .pre .0, clear-made locationsMax)
+-- the places of the code: a node is read, a turn of the links, the part's locations are gathered, its two sides are set
+abbrev start : tie.After-links Inv-loop μ-loop Inv-loop2 μ-loop2 Inv-check μ-check → tie.Start Inv-loop μ-loop Inv-loop2 μ-loop2 Inv-check μ-check
+start c = c .before .before .before
 
-service-link-rows-requires :
-    tie.Need-service-link-rows-requires Inv-loop μ-loop Inv-loop2 μ-loop2 Inv-check μ-check
-service-link-rows-requires c κs = (c .before .before .before .before .before .pre .0, clear-made (suc endpointsMax))
+abbrev read : tie.After-node-right Inv-loop μ-loop Inv-loop2 μ-loop2 Inv-check μ-check → tie.After-node-at Inv-loop μ-loop Inv-loop2 μ-loop2 Inv-check μ-check
+read c = c .before .before .before
 
-endpoint-rows-requires :
-    tie.Need-endpoint-rows-requires Inv-loop μ-loop Inv-loop2 μ-loop2 Inv-check μ-check
+abbrev turn : tie.After-has Inv-loop μ-loop Inv-loop2 μ-loop2 Inv-check μ-check → tie.At-loop2 Inv-loop μ-loop Inv-loop2 μ-loop2 Inv-check μ-check
+turn c = c .before .before .before
+
+abbrev gathered : tie.Joined6 Inv-loop μ-loop Inv-loop2 μ-loop2 Inv-check μ-check → tie.After-add2 Inv-loop μ-loop Inv-loop2 μ-loop2 Inv-check μ-check
+gathered c = c .before .before .before .before .before .before
+
+abbrev sided : tie.After-lost-between Inv-loop μ-loop Inv-loop2 μ-loop2 Inv-check μ-check → tie.Joined6 Inv-loop μ-loop Inv-loop2 μ-loop2 Inv-check μ-check
+sided c = c .before .before .before
+
+link-rows-requires : tie.Need-link-rows-requires Inv-loop μ-loop Inv-loop2 μ-loop2 Inv-check μ-check
+link-rows-requires c κs = (start c .pre .0, clear-made locationsMax)
+
+service-link-rows-requires : tie.Need-service-link-rows-requires Inv-loop μ-loop Inv-loop2 μ-loop2 Inv-check μ-check
+service-link-rows-requires c κs = (start (c .before .before) .pre .0, clear-made (suc endpointsMax))
+
+endpoint-rows-requires : tie.Need-endpoint-rows-requires Inv-loop μ-loop Inv-loop2 μ-loop2 Inv-check μ-check
 endpoint-rows-requires c κs = search needs
 
 check-holds : tie.Need-check-holds Inv-loop μ-loop Inv-loop2 μ-loop2 Inv-check μ-check
 check-holds c =
     let s = c .before .before in
     let l = s .before .before in
-    let p = l .before .before .before .before .pre in
+    let p = start (l .before) .pre in
     let t = tables-made (p .0) (p .1) (p .2) (p .3) (l .link-rows .ensures) (s .service-link-rows .ensures) (c .endpoint-rows .ensures) in
     record { none = refl; gone = gone-begun t }
 
-forest-at-requires :
-    tie.Need-forest-at-requires Inv-loop μ-loop Inv-loop2 μ-loop2 Inv-check μ-check
+forest-at-requires : tie.Need-forest-at-requires Inv-loop μ-loop Inv-loop2 μ-loop2 Inv-check μ-check
 forest-at-requires c κs = search needs
 
 held-in-requires : tie.Need-held-in-requires Inv-loop μ-loop Inv-loop2 μ-loop2 Inv-check μ-check
@@ -95,12 +107,12 @@ loop-holds c =
 node-at-requires : tie.Need-node-at-requires Inv-loop μ-loop Inv-loop2 μ-loop2 Inv-check μ-check
 node-at-requires c κs = search needs
 
-node-right-requires :
-    tie.Need-node-right-requires Inv-loop μ-loop Inv-loop2 μ-loop2 Inv-check μ-check
+node-right-requires : tie.Need-node-right-requires Inv-loop μ-loop Inv-loop2 μ-loop2 Inv-check μ-check
 node-right-requires c κs =
-    let i = c .before .before .before .before .loop .inv in
+    let k = c .before .before in
+    let i = k .before .before .loop .inv in
     let t = i .part .gone .tables in
-    ((t .link-rows .many, i .some, c .before .before .before .loop-test .taken, t .few-slots, i .part .small), c .before .before .node-at .ensures)
+    ((t .link-rows .many, i .some, k .before .loop-test .taken, t .few-slots, i .part .small), k .node-at .ensures)
 
 add-requires : tie.Need-add-requires Inv-loop μ-loop Inv-loop2 μ-loop2 Inv-check μ-check
 add-requires c κs = search needs
@@ -113,7 +125,7 @@ loop-less c = search needs
 
 loop-again : tie.Need-loop-again Inv-loop μ-loop Inv-loop2 μ-loop2 Inv-check μ-check
 loop-again c =
-    let k = c .before .before .before .before .before .before in
+    let k = read (c .before .before .before) in
     let l = k .before .before .loop in
     let e = ap (λ (x : Node). x .depth) (node-read _ _ _ (l .v) (l .inv .some) (k .before .loop-test .taken) ∙ sym (k .node-at .ensures)) in
     let r = sym (c .before .before .before .node-right .ensures) ∙ not-false _ (c .before .before .if1 .left) in
@@ -121,11 +133,8 @@ loop-again c =
       some = omega arith;
       none = l .inv .none;
       part = l .inv .part;
-      followed =
-          ⊎-elim
-          (λ w. rw (w .3) (followed-in (l .inv .some) (l .inv .followed) r (λ z. w .0 .taken (sym e ∙ z)) (w .2 .ensures)))
-          (λ w. rw (w .1) (followed-out (l .inv .some) (l .inv .followed) r (e ∙ w .0 .left)))
-          (c .if2 .came);
+      followed = ⊎-elim (λ w. rw (w .3) (followed-in (l .inv .some) (l .inv .followed) r (λ z. w .0 .taken (sym e ∙ z)) (w .2 .ensures)))
+          (λ w. rw (w .1) (followed-out (l .inv .some) (l .inv .followed) r (e ∙ w .0 .left))) (c .if2 .came);
     }
 
 add-requires-2 : tie.Need-add-requires-2 Inv-loop μ-loop Inv-loop2 μ-loop2 Inv-check μ-check
@@ -134,8 +143,7 @@ add-requires-2 c κs = search needs
 minus-requires : tie.Need-minus-requires Inv-loop μ-loop Inv-loop2 μ-loop2 Inv-check μ-check
 minus-requires c κs = search needs
 
-none-marked-requires :
-    tie.Need-none-marked-requires Inv-loop μ-loop Inv-loop2 μ-loop2 Inv-check μ-check
+none-marked-requires : tie.Need-none-marked-requires Inv-loop μ-loop Inv-loop2 μ-loop2 Inv-check μ-check
 none-marked-requires c κs = search needs
 
 add-a : tie.Need-add-a Inv-loop μ-loop Inv-loop2 μ-loop2 Inv-check μ-check
@@ -169,8 +177,7 @@ has-requires c κs = search needs
 mul-row : tie.Need-mul-row Inv-loop μ-loop Inv-loop2 μ-loop2 Inv-check μ-check
 mul-row c = search needs
 
-array-copy-out-row :
-    tie.Need-array-copy-out-row Inv-loop μ-loop Inv-loop2 μ-loop2 Inv-check μ-check
+array-copy-out-row : tie.Need-array-copy-out-row Inv-loop μ-loop Inv-loop2 μ-loop2 Inv-check μ-check
 array-copy-out-row c = search needs
 
 meet-requires : tie.Need-meet-requires Inv-loop μ-loop Inv-loop2 μ-loop2 Inv-check μ-check
@@ -185,31 +192,23 @@ loop2-less c = search needs
 loop2-again : tie.Need-loop2-again Inv-loop μ-loop Inv-loop2 μ-loop2 Inv-check μ-check
 loop2-again c =
     let h = c .before .before in
-    let i = h .before .before .before .loop2 .inv in
+    let i = turn h .loop2 .inv in
     record {
       none = i .none;
       inside = i .inside;
-      closed =
-          ⊎-elim
-          (λ w. closed-apart (i .closed) (rw (w .4 .left) at (w .3 .ensures)))
-          (λ w. closed-out (i .closed) (sym (h .has .ensures) ∙ w .left))
-          (c .before .if4 .came);
+      closed = ⊎-elim (λ w. closed-apart (i .closed) (rw (w .4 .left) at (w .3 .ensures)))
+          (λ w. closed-out (i .closed) (sym (h .has .ensures) ∙ w .left)) (c .before .if4 .came);
     }
 
 -- part 0 is weighed against nothing, and each section against the first forest
-abbrev in-check : tie.Joined6 Inv-loop μ-loop Inv-loop2 μ-loop2 Inv-check μ-check → tie.At-check Inv-loop μ-loop Inv-loop2 μ-loop2 Inv-check μ-check
-in-check c = c .before .before .before .before .before .before .before .before .before .before .before .before .before
-
-sides : (c : tie.Joined6 Inv-loop μ-loop Inv-loop2 μ-loop2 Inv-check μ-check) → let k = in-check c .check in
-    Sides (k .now) (c .before .before .before .before .before .before .add2 .last .0) (k .k) (c .if6 .now) (c .if6 .still)
+sides : (c : tie.Joined6 Inv-loop μ-loop Inv-loop2 μ-loop2 Inv-check μ-check) → let g = gathered c in
+    let k = g .before .before .before .before .before .before .before .check in Sides (k .now) (g .add2 .last .0) (k .k) (c .if6 .now) (c .if6 .still)
 sides c = ⊎-elim (λ w. sides-whole _ (w .0 .taken) (w .1) (w .2)) (λ w. sides-less _ (w .0 .left) (w .1) (w .2)) (c .if6 .came)
 
-lost-between-requires :
-    tie.Need-lost-between-requires Inv-loop μ-loop Inv-loop2 μ-loop2 Inv-check μ-check
-lost-between-requires c κs = c .before .before .before .before .loop2 .inv .inside .part .gone .tables .ready
+lost-between-requires : tie.Need-lost-between-requires Inv-loop μ-loop Inv-loop2 μ-loop2 Inv-check μ-check
+lost-between-requires c κs = search needs
 
-stated-right-requires :
-    tie.Need-stated-right-requires Inv-loop μ-loop Inv-loop2 μ-loop2 Inv-check μ-check
+stated-right-requires : tie.Need-stated-right-requires Inv-loop μ-loop Inv-loop2 μ-loop2 Inv-check μ-check
 stated-right-requires c κs = search needs
 
 add-k : tie.Need-add-k Inv-loop μ-loop Inv-loop2 μ-loop2 Inv-check μ-check
@@ -220,12 +219,12 @@ check-less c = search needs
 
 check-again : tie.Need-check-again Inv-loop μ-loop Inv-loop2 μ-loop2 Inv-check μ-check
 check-again c =
-    let l = c .before .before .before .before .before .before in
-    let i = l .before .loop2 .inv in
+    let s = sided (c .before .before) in
+    let i = s .before .before .loop2 .inv in
     record {
       none = i .none;
       gone =
-          part-gone (i .inside) (i .closed) (l .loop2-test .left) (sides (c .before .before .before .before .before)) (c .before .before .lost-between .ensures)
+          part-gone (i .inside) (i .closed) (s .before .loop2-test .left) (sides s) (c .before .before .lost-between .ensures)
           (sym (c .before .stated-right .ensures) ∙ not-false _ (c .if7 .left));
     }
 
@@ -234,21 +233,21 @@ returns c = c .before .check .inv .none ∙ gone-ended (c .before .check .inv .g
 
 returns-2 : tie.Need-returns-2 Inv-loop μ-loop Inv-loop2 μ-loop2 Inv-check μ-check
 returns-2 c =
-    let l = c .before .before .before .before .before in
+    let l = read (c .before) .before in
     let i = l .before .loop .inv in
     part-node (i .part) (i .some) (l .loop-test .taken) (sym (c .before .node-right .ensures) ∙ not-true _ (c .if1 .taken))
 
 returns-3 : tie.Need-returns-3 Inv-loop μ-loop Inv-loop2 μ-loop2 Inv-check μ-check
 returns-3 c =
     let k = c .before .before .before .before in
-    let l = k .before .before .before .before .loop2 in
+    let l = turn (k .before) .loop2 in
     part-link (l .inv .inside) (l .a) (rw (sym (k .before .has .ensures) ∙ k .if4 .taken) tt) (rw (c .if5 .taken) at (c .before .meet .ensures))
 
 returns-4 : tie.Need-returns-4 Inv-loop μ-loop Inv-loop2 μ-loop2 Inv-check μ-check
 returns-4 c =
-    let l = c .before .before .before .before .before .before in
-    let i = l .before .loop2 .inv in
-    part-stated (i .inside) (i .closed) (l .loop2-test .left) (sides (c .before .before .before .before .before)) (c .before .before .lost-between .ensures)
+    let s = sided (c .before .before) in
+    let i = s .before .before .loop2 .inv in
+    part-stated (i .inside) (i .closed) (s .before .loop2-test .left) (sides s) (c .before .before .lost-between .ensures)
     (sym (c .before .stated-right .ensures) ∙ not-true _ (c .if7 .taken))
 
 pub parts-fault-spec : {M : Type 1} → statement M
