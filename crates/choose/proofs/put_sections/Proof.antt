@@ -36,9 +36,12 @@ Inv-loop buf₀ at h links services weights protected reached held near size n b
 abbrev μ-loop : tie.MeasureT-loop
 μ-loop buf₀ at h links services weights protected reached held near size n blocks best₀ q₀ b₀ buf best q b = blocks - b
 
--- where the function begins
+-- where the function begins, and where the block at hand is found to be a candidate
 abbrev start : tie.In-loop Inv-loop μ-loop → tie.Start Inv-loop μ-loop
 start c = c .before .before .before
+
+abbrev hit : tie.After-better Inv-loop μ-loop → tie.Then1 Inv-loop μ-loop
+hit c = c .before .before .before .before .before .before .before
 
 -- the block at hand is one of the picture's
 below : (c : tie.In-loop Inv-loop μ-loop) → c .before .loop .b < blockCount (pictureOf (start c .pre .bytes))
@@ -90,12 +93,10 @@ better-requires : tie.Need-better-requires Inv-loop μ-loop
 better-requires c κs = search needs
 
 section-bytes-requires : tie.Need-section-bytes-requires Inv-loop μ-loop
-section-bytes-requires c κs =
-    let t = c .before .before .before .before .before .before .before in
-    read-sizes _ _ (start (t .before .before .before) .pre .rows .read) .slots-most
+section-bytes-requires c κs = read-sizes _ _ (start (hit c .before .before .before) .pre .rows .read) .slots-most
 
 add-q : tie.Need-add-q Inv-loop μ-loop
-add-q c = omega (arith, c .section-bytes .ensures, room (c .before .before .before .before .before .before .before .before) .low)
+add-q c = omega (arith, c .section-bytes .ensures, room (hit (c .before)) .low)
 
 add-b : tie.Need-add-b Inv-loop μ-loop
 add-b c = let l = c .before .before .before in omega (arith, blocks-small _ (start l .pre .rows .read .accepted), below l)
@@ -113,8 +114,7 @@ loop-again c =
           let n = read-slots _ _ (r .read) in
           let k = sym (candidate (c .before) bs (r .read) s) in
           ⊎-elim
-          (λ w.
-          let left = read-left (r .read) s (w .1 .ensures) (w .2 .ensures) in
+          (λ w. let left = read-left (r .read) s (w .1 .ensures) (w .2 .ensures) in
           rw (w .9, w .10, w .11, below-hit p (l .b) (k ∙ w .0 .taken))
           (sections-hit p n (l .inv .done bs r s) (w .4 .ensures bs r left) (w .7 .ensures) (w .8 .ensures)))
           (λ w. rw (w .1, w .2, w .3, below-miss p (l .b) (k ∙ w .0 .left)) (l .inv .done bs r s))
