@@ -17,11 +17,16 @@ use borrow.Author.Needs.{needs}
 use Rattle.write.proofs.handed_fault.Statement.{statement}
 use Rattle.write.proofs.handed_fault.Tie as tie
 
--- the lists that are judged, behind the first test
+-- where the function begins, and behind the first test
+abbrev start : tie.Else1 → tie.Start
+start c = c .before .before .before .before .before
+
+abbrev even : tie.Else3 → tie.Else1
+even c = c .before .before .before
+
+-- the lists that are judged
 abbrev lists : tie.Else1 → Lists
-lists c =
-    let a = c .before .before .before .before .before .args in
-    under (a .h) (a .states .now) (a .is-near .now) (a .weights .now) (a .is-protected .now) (a .links .now) (a .service-links .now)
+lists c = let a = start c .args in under (a .h) (a .states .now) (a .is-near .now) (a .weights .now) (a .is-protected .now) (a .links .now) (a .service-links .now)
 
 -- none of the first k is a fault: the first of the rest is the first of all
 abbrev Past : ℕ → tie.Else1 → Type 0
@@ -33,8 +38,8 @@ unfolding under handed
 slots c = c .if1 .left
 
 -- the header that is judged
-header : (c : tie.Else1) → c .before .before .before .before .before .args .h ≡ columnsHeader (lists c)
-header c = c .before .before .before .before .before .pre
+header : (c : tie.Else1) → start c .args .h ≡ columnsHeader (lists c)
+header c = start c .pre
 
 past-slots : (c : tie.Else1) → Past 1 c
 unfolding handedFaults
@@ -47,24 +52,22 @@ past-sizes : (c : tie.Else2) → Past 2 (c .before .before)
 unfolding handedFaults
 past-sizes c = passes 3 _ (ap not (sizes (c .before) ∙ not-false _ (c .if2 .left))) ∙ past-slots (c .before .before)
 
-endpoints : (c : tie.Else3) → let l = lists (c .before .before .before) in length (l .weights) ≡ length (l .protected)
+endpoints : (c : tie.Else3) → let l = lists (even c) in length (l .weights) ≡ length (l .protected)
 unfolding under handed
 endpoints c = c .if3 .left
 
-past-endpoints : (c : tie.Else3) → Past 3 (c .before .before .before)
+past-endpoints : (c : tie.Else3) → Past 3 (even c)
 unfolding handedFaults
 past-endpoints c = passes 4 _ (ap not (eq-eqb _ _ (endpoints c))) ∙ past-sizes (c .before)
 
 -- behind the third test the header is the picture's
-whole : (c : tie.Else3) → let k = c .before .before .before in k .before .before .before .before .before .args .h ≡ headerFor (pictureFrom (lists k))
-whole c =
-    let k = c .before .before .before in
-    header k ∙ header-even (lists k) (slots k) (endpoints c)
+whole : (c : tie.Else3) → start (even c) .args .h ≡ headerFor (pictureFrom (lists (even c)))
+whole c = let k = even c in header k ∙ header-even (lists k) (slots k) (endpoints c)
 
-counts : (c : tie.After-counts-right) → countsRight (headerFor (pictureFrom (lists (c .before .before .before .before)))) ≡ c .counts-right .result
+counts : (c : tie.After-counts-right) → countsRight (headerFor (pictureFrom (lists (even (c .before))))) ≡ c .counts-right .result
 counts c = sym (c .counts-right .ensures ∙ ap countsRight (whole (c .before)))
 
-past-counts : (c : tie.Else4) → Past 4 (c .before .before .before .before .before)
+past-counts : (c : tie.Else4) → Past 4 (even (c .before .before))
 unfolding handedFaults
 past-counts c = passes 4 _ (ap not (counts (c .before) ∙ not-false _ (c .if4 .left))) ∙ past-endpoints (c .before .before)
 
@@ -97,12 +100,9 @@ returns-5 : tie.Need-returns-5
 unfolding handedFaults under handed
 returns-5 c =
     let d = c .before .before .before in
-    let k = d .before .before .before in
-    let l = lists k in
-    let same = ap (λ (h : Header). first (columnFaults l h)) (header k) ∙ ap first (lists-even l (slots k) (endpoints d)) in
+    let k = even d in
+    let same = ap (λ (h : Header). first (columnFaults (lists k) h)) (header k) ∙ ap first (lists-even (lists k) (slots k) (endpoints d)) in
     c .lists-fault .ensures ∙ same ∙ past-counts (c .before)
 
 pub handed-fault-spec : {M : Type 1} → statement M
-handed-fault-spec =
-    tie.close
-    (tie.spec returns sizes-right-requires returns-2 returns-3 counts-right-requires returns-4 lists-fault-requires returns-5)
+handed-fault-spec = tie.close (tie.spec returns sizes-right-requires returns-2 returns-3 counts-right-requires returns-4 lists-fault-requires returns-5)
