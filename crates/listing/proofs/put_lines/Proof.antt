@@ -23,20 +23,26 @@ abbrev μ-loop : tie.MeasureT-loop
 abbrev headed : tie.After-put-served-line Inv-loop μ-loop → tie.After-head-of Inv-loop μ-loop
 headed c = c .before .before
 
-abbrev start : tie.After-put-served-line Inv-loop μ-loop → tie.Start Inv-loop μ-loop
-start c = headed c .before .before .before
-
 abbrev served : tie.At-loop Inv-loop μ-loop → tie.After-put-served-line Inv-loop μ-loop
 served c = c .before .before .before
 
+abbrev start : tie.At-loop Inv-loop μ-loop → tie.Start Inv-loop μ-loop
+start c = headed (served c) .before .before .before
+
+abbrev turn : tie.After-section-of Inv-loop μ-loop → tie.At-loop Inv-loop μ-loop
+turn c = c .before .before .before .before
+
+abbrev ended : tie.After-put-choice-line Inv-loop μ-loop → tie.At-loop Inv-loop μ-loop
+ended c = c .before .before .before .before
+
 abbrev ev : tie.At-loop Inv-loop μ-loop → List ℕ
-ev c = start (served c) .args .ev .now
+ev c = start c .args .ev .now
 
 -- ---- what is known there
 
 -- there are few sections
 few : (c : tie.At-loop Inv-loop μ-loop) → headed (served c) .head-of .result .count ≤ blocksMax
-few c = let s = served c in rw (headed s .head-of .ensures) (start s .pre .1)
+few c = rw (headed (served c) .head-of .ensures) (start c .pre .1)
 
 -- after as many lines there is room for one more
 room : (c : tie.At-loop Inv-loop μ-loop) → c .loop .at + 43 ≤ length (c .loop .text)
@@ -57,9 +63,7 @@ section-of-requires : tie.Need-section-of-requires Inv-loop μ-loop
 section-of-requires c κs = omega (arith, few (c .before .before .before))
 
 put-block-line-requires : tie.Need-put-block-line-requires Inv-loop μ-loop
-put-block-line-requires c κs =
-    let l = c .before .before .before .before in
-    rw (c .section-of .ensures) (omega (arith, section-below (ev l) (start (served l) .args .n) (l .loop .i), room l))
+put-block-line-requires c κs = let l = turn c in rw (c .section-of .ensures) (omega (arith, section-below (ev l) (start l .args .n) (l .loop .i), room l))
 
 add-i : tie.Need-add-i Inv-loop μ-loop
 add-i c = search needs
@@ -70,24 +74,20 @@ loop-less c = search needs
 loop-again : tie.Need-loop-again Inv-loop μ-loop
 loop-again c =
     let b = c .before .before in
-    let l = b .before .before .before .before .before in
-    (omega arith, telling-next _ _ (l .loop .i) (l .loop .inv .1) (rw (b .before .section-of .ensures) at (b .put-block-line .ensures)))
+    (omega arith, telling-next _ _ _ (turn (b .before) .loop .inv .1) (rw (b .before .section-of .ensures) at (b .put-block-line .ensures)))
 
 put-choice-line-requires : tie.Need-put-choice-line-requires Inv-loop μ-loop
-put-choice-line-requires c κs =
-    let l = c .before .before .before in
-    rw (headed (served l) .head-of .ensures) (omega (arith, head-below (ev l), room l))
+put-choice-line-requires c κs = let l = c .before .before .before in rw (headed (served l) .head-of .ensures) (omega (arith, head-below (ev l), room l))
 
 same-length : tie.Need-same-length Inv-loop μ-loop
-same-length c = omega (arith, text-long (c .before .before .before .before .before .before .loop .inv .1 .texted))
+same-length c = omega (arith, text-long (ended (c .before .before) .loop .inv .1 .texted))
 
 returns : tie.Need-returns Inv-loop μ-loop
 returns c =
     let k = c .before .before in
-    let l = k .before .before .before .before in
-    let s = served l in
-    let all : l .loop .i ≡ headed s .head-of .result .count = omega (arith, l .loop .inv .0, k .before .before .if1 .left) in
-    telling-ended _ _ (headed s .head-of .ensures) (s .put-served-line .ensures) (l .loop .inv .1) all (k .put-choice-line .ensures)
+    let l = ended k in
+    let all : l .loop .i ≡ headed (served l) .head-of .result .count = omega (arith, l .loop .inv .0, k .before .before .if1 .left) in
+    telling-ended _ _ (headed (served l) .head-of .ensures) (served l .put-served-line .ensures) (l .loop .inv .1) all (k .put-choice-line .ensures)
 
 pub put-lines-spec : {M : Type 1} → statement M
 put-lines-spec =
