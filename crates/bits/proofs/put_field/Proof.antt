@@ -24,9 +24,12 @@ record Chunk (at left next : ℕ) : Type 0 where
   pub within : next ≤ left
   pub inside : at % 8 + next ≤ 8
 
--- the entry, at the loop's test
+-- the entry, at the loop's test, and where the next digits are counted
 abbrev entry : tie.At-loop Inv-loop μ-loop → tie.Start Inv-loop μ-loop
 entry c = c .before .before
+
+abbrev counted : tie.After-slice-known2 Inv-loop μ-loop → tie.Joined1 Inv-loop μ-loop
+counted c = c .before .before .before .before .before
 
 chunk : (c : tie.Joined1 Inv-loop μ-loop) → let l = c .before .before in let a = entry l .args in
     Chunk (a .p + l .loop .done) (a .w - l .loop .done) (c .if1 .next)
@@ -55,27 +58,24 @@ shr-put-in-byte : tie.Need-shr-put-in-byte Inv-loop μ-loop
 shr-put-in-byte c = search needs
 
 put-in-byte-requires : tie.Need-put-in-byte-requires Inv-loop μ-loop
-put-in-byte-requires c κs =
-    let k = chunk (c .before .before) in
-    (omega (arith, k, kept (c .before .before .before .before)), omega (arith, k))
+put-in-byte-requires c κs = let j = c .before .before in (omega (arith, chunk j, kept (j .before .before)), omega (arith, chunk j))
 
 add-done : tie.Need-add-done Inv-loop μ-loop
-add-done c = omega (arith, chunk (c .before .before .before .before .before))
+add-done c = omega (arith, chunk (counted c))
 
 loop-less : tie.Need-loop-less Inv-loop μ-loop
-loop-less c = omega (arith, chunk (c .before .before .before .before .before))
+loop-less c = omega (arith, chunk (counted c))
 
 loop-again : tie.Need-loop-again Inv-loop μ-loop
 loop-again c =
-    let j = c .before .before .before .before .before in
+    let j = counted c in
     let a = entry (j .before .before) .args in
     let l = j .before .before .loop in
-    let k = chunk j in
     let n = j .if1 .next in (
-      omega (arith, k),
+      omega (arith, chunk j),
       c .before .before .put-in-byte .ensures
           ∙ ap (λ (z : List ℕ). putField z (a .p + l .done) n (a .v / 2 ^ (a .w - l .done - n))) (l .inv .1)
-          ∙ putField-chunk (a .s .now) (a .p) (a .w) (a .v) (l .done) n (omega (arith, k)),
+          ∙ putField-chunk (a .s .now) (a .p) (a .w) (a .v) (l .done) n (omega (arith, chunk j)),
     )
 
 same-length : tie.Need-same-length Inv-loop μ-loop
