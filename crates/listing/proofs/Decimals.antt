@@ -18,7 +18,7 @@ use Rattle.lists.proofs.Picks.{getD-range}
 use Rattle.io.specs.Digits.{digits, Fewest}
 use Rattle.listing.specs.Decimal.{places, decimal}
 use Rattle.listing.specs.Text.{Texted}
-use Rattle.listing.specs.Listing.{item}
+use Rattle.listing.specs.Listing.{phrase}
 
 -- j is below 10 to the j
 below-power : (j : ℕ) → j < 10 ^ j
@@ -62,11 +62,11 @@ decimal-short n h =
     omega (arith, length-digits (places n) n)
 
 -- a word and its number take at most eight bytes more than the word
-pub item-short : (word : List ℕ) (n : ℕ) → n < 10 ^ 8 → length (item word n) ≤ length word + 8
-unfolding item
-item-short word n h = omega (arith, length-append word (decimal n), decimal-short n h)
+pub phrase-short : (word : List ℕ) (n : ℕ) → n < 10 ^ 8 → length (phrase word n) ≤ length word + 8
+unfolding phrase
+phrase-short word n h = omega (arith, length-append word (decimal n), decimal-short n h)
 
 -- so that they end there
-pub item-ends : {buf : List ℕ} {at : ℕ} (word : List ℕ) {n : ℕ} {out : List ℕ} {end : ℕ} → Texted buf at (item word n) out end → n < 10 ^ 8
+pub phrase-ends : {buf : List ℕ} {at : ℕ} (word : List ℕ) {n : ℕ} {out : List ℕ} {end : ℕ} → Texted buf at (phrase word n) out end → n < 10 ^ 8
     → end ≤ at + (length word + 8)
-item-ends word {n} t h = omega (arith, t .ends, item-short word n h)
+phrase-ends word {n} t h = omega (arith, t .ends, phrase-short word n h)

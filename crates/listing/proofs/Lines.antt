@@ -14,13 +14,13 @@ use Rattle.evidence.specs.declared.Head.{Head}
 use Rattle.evidence.specs.Contents.{headIn, sectionIn}
 use Rattle.evidence.proofs.Places.{head-below, section-below}
 use Rattle.listing.specs.Text.{Texted}
-use Rattle.listing.specs.Listing.{servedWord, blockWord, lostWord, markWord, chooseWord, lineEnd, item, servedLine, blockLine, choiceLine}
+use Rattle.listing.specs.Listing.{servedWord, blockWord, lostWord, markWord, chooseWord, lineEnd, phrase, servedLine, blockLine, choiceLine}
 use Rattle.listing.specs.ByEvidence.{sectionLines, evidenceLines}
 use Rattle.listing.proofs.Texts.{text-none, text-long, text-then}
-use Rattle.listing.proofs.Decimals.{item-short}
+use Rattle.listing.proofs.Decimals.{phrase-short}
 
 -- the line of a choice that names a block
-pub choice-named : {verdict : ℕ} → verdict ≢ 0 → (block loss : ℕ) → choiceLine verdict block loss ≡ item chooseWord block ++ (item lostWord loss ++ lineEnd)
+pub choice-named : {verdict : ℕ} → verdict ≢ 0 → (block loss : ℕ) → choiceLine verdict block loss ≡ phrase chooseWord block ++ (phrase lostWord loss ++ lineEnd)
 unfolding choiceLine
 choice-named {verdict = zero} n block loss = absurd (n refl)
 choice-named {verdict = suc k} n block loss = refl
@@ -33,16 +33,16 @@ module _ (n : ℕ) (ev : List ℕ) where
   -- three words of six bytes, three numbers of eight digits and the end of the line are 43 bytes; the served weight takes fewer
   served-short : length (servedLine (headIn ev .served)) ≤ 43
   unfolding servedLine servedWord lineEnd
-  served-short = simp length-append (omega (arith, item-short servedWord (headIn ev .served) (omega (arith, head-below ev))))
+  served-short = simp length-append (omega (arith, phrase-short servedWord (headIn ev .served) (omega (arith, head-below ev))))
 
   line-short : (i : ℕ) → length (line i) ≤ 43
   unfolding blockLine blockWord lostWord markWord lineEnd
   line-short i =
       let w = sectionIn edition1 n ev i in
       let b = section-below ev n i in
-      let block = item-short blockWord (w .block) (omega arith) in
-      let loss = item-short lostWord (w .loss) (omega arith) in
-      let mark = item-short markWord (w .mark) (omega arith) in
+      let block = phrase-short blockWord (w .block) (omega arith) in
+      let loss = phrase-short lostWord (w .loss) (omega arith) in
+      let mark = phrase-short markWord (w .mark) (omega arith) in
       simp length-append (omega arith)
 
   -- from byte at₀ on, where the served weight ended, the lines of the first i sections are told

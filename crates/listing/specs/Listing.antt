@@ -48,25 +48,25 @@ lineEnd = 10 ∷ []
 -- ---- the lines
 
 -- a word and the number behind it
-unfoldable pub item : List ℕ → ℕ → List ℕ
-item word number = word ++ decimal number
+unfoldable pub phrase : List ℕ → ℕ → List ℕ
+phrase word number = word ++ decimal number
 
 -- "served 42"
 unfoldable pub servedLine : ℕ → List ℕ
-servedLine weight = item servedWord weight ++ lineEnd
+servedLine weight = phrase servedWord weight ++ lineEnd
 
 -- "block 0 lost 30 mark 1"
 unfoldable pub blockLine : Cost → List ℕ
-blockLine w = item blockWord (w .block) ++ (item lostWord (w .loss) ++ (item markWord (w .mark) ++ lineEnd))
+blockLine w = phrase blockWord (w .block) ++ (phrase lostWord (w .loss) ++ (phrase markWord (w .mark) ++ lineEnd))
 
 -- "choose 1 lost 12", or "choose none" for verdict 0
 unfoldable pub choiceLine : ℕ → ℕ → ℕ → List ℕ
 choiceLine zero block loss = chooseWord ++ (noneWord ++ lineEnd)
-choiceLine (suc k) block loss = item chooseWord block ++ (item lostWord loss ++ lineEnd)
+choiceLine (suc k) block loss = phrase chooseWord block ++ (phrase lostWord loss ++ lineEnd)
 
 -- "refused 7"
 unfoldable pub refusedLine : ℕ → List ℕ
-refusedLine number = item refusedWord number ++ lineEnd
+refusedLine number = phrase refusedWord number ++ lineEnd
 
 -- ---- the listing
 

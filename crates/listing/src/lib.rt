@@ -8,7 +8,7 @@ ghost use Rattle.rows.specs.Rows.{slotsMax};
 ghost use Rattle.picture.specs.Layout.{blocksMax};
 ghost use Rattle.evidence.specs.Contents.{headIn};
 ghost use Rattle.listing.specs.Text.{textMax, Texted};
-ghost use Rattle.listing.specs.Listing.{item, servedLine, blockLine, choiceLine, refusedLine, listing};
+ghost use Rattle.listing.specs.Listing.{phrase, servedLine, blockLine, choiceLine, refusedLine, listing};
 ghost use Rattle.listing.specs.ByEvidence.{evidenceLines};
 use evidence::EVIDENCE_MAX;
 use evidence::Head;
@@ -32,9 +32,9 @@ fn put_word(text: &mut [u8], at: usize, word: &[u8]) -> usize
 }
 
 // Puts a word and the number behind it, which has at most eight digits.
-fn put_item(text: &mut [u8], at: usize, word: &[u8], number: usize) -> usize
+fn put_phrase(text: &mut [u8], at: usize, word: &[u8], number: usize) -> usize
     requires { ⌜ (number < 10 ^ 8) × (at + length (now word) + 8 ≤ length (now text)) ⌝ }
-    ensures { λ r. ⌜ Texted (now (text .entry)) at (item (now (word .entry)) number) (now (text .exit)) r ⌝ }
+    ensures { λ r. ⌜ Texted (now (text .entry)) at (phrase (now (word .entry)) number) (now (text .exit)) r ⌝ }
 {
     let mut digits = [0u8; 20];
     let k = io::decimal(number as u64, &mut digits);
@@ -47,7 +47,7 @@ fn put_served_line(text: &mut [u8], at: usize, weight: usize) -> usize
     requires { ⌜ (weight < 10 ^ 8) × (at + 43 ≤ length (now text)) ⌝ }
     ensures { λ r. ⌜ Texted (now (text .entry)) at (servedLine weight) (now (text .exit)) r ⌝ }
 {
-    let then = put_item(text, at, b"served ", weight);
+    let then = put_phrase(text, at, b"served ", weight);
     put_word(text, then, b"\n")
 }
 
@@ -56,9 +56,9 @@ fn put_block_line(text: &mut [u8], at: usize, w: Cost) -> usize
     requires { ⌜ (w .block < 10 ^ 8) × (w .loss < 10 ^ 8) × (w .mark < 10 ^ 8) × (at + 43 ≤ length (now text)) ⌝ }
     ensures { λ r. ⌜ Texted (now (text .entry)) at (blockLine w) (now (text .exit)) r ⌝ }
 {
-    let lost_at = put_item(text, at, b"block ", w.block);
-    let mark_at = put_item(text, lost_at, b" lost ", w.loss);
-    let then = put_item(text, mark_at, b" mark ", w.mark);
+    let lost_at = put_phrase(text, at, b"block ", w.block);
+    let mark_at = put_phrase(text, lost_at, b" lost ", w.loss);
+    let then = put_phrase(text, mark_at, b" mark ", w.mark);
     put_word(text, then, b"\n")
 }
 
@@ -72,8 +72,8 @@ fn put_choice_line(text: &mut [u8], at: usize, head: Head) -> usize
         let then = put_word(text, none_at, b"none");
         return put_word(text, then, b"\n");
     }
-    let lost_at = put_item(text, at, b"choose ", head.block);
-    let then = put_item(text, lost_at, b" lost ", head.loss);
+    let lost_at = put_phrase(text, at, b"choose ", head.block);
+    let then = put_phrase(text, lost_at, b" lost ", head.loss);
     put_word(text, then, b"\n")
 }
 
@@ -97,7 +97,7 @@ fn put_refused_line(text: &mut [u8], number: u8) -> usize
     requires { ⌜ textMax ≤ length (now text) ⌝ }
     ensures { λ r. ⌜ Texted (now (text .entry)) 0 (refusedLine number) (now (text .exit)) r ⌝ }
 {
-    let then = put_item(text, 0, b"refused ", number as usize);
+    let then = put_phrase(text, 0, b"refused ", number as usize);
     put_word(text, then, b"\n")
 }
 

@@ -3,7 +3,7 @@ use Prim.Native.Nat.{_+_, _≤_}
 use native.Mathlib.Omega.{arith}
 use Rattle.listing.specs.Listing.{chooseWord, noneWord, lostWord, lineEnd, choiceLine}
 use Rattle.listing.proofs.Texts.{text-then}
-use Rattle.listing.proofs.Decimals.{item-ends}
+use Rattle.listing.proofs.Decimals.{phrase-ends}
 use Rattle.listing.proofs.Lines.{choice-named}
 use borrow.Author.Needs.{needs}
 use Rattle.listing.proofs.put_choice_line.Statement.{statement}
@@ -11,19 +11,19 @@ use Rattle.listing.proofs.put_choice_line.Tie as tie
 
 -- ---- the places of the code where a block is chosen, each from the next
 
-abbrev start : tie.After-put-item → tie.Start
+abbrev start : tie.After-put-phrase → tie.Start
 start c = c .before .before .before .before .before .before
 
-abbrev named : tie.After-put-item2 → tie.After-put-item
+abbrev named : tie.After-put-phrase2 → tie.After-put-phrase
 named c = c .before .before .before .before .before
 
--- ---- where each item ends
+-- ---- where each phrase ends
 
-named-end : (c : tie.After-put-item) → c .put-item .result ≤ start c .args .at + 15
-named-end c = item-ends _ (c .put-item .ensures) (omega arith)
+named-end : (c : tie.After-put-phrase) → c .put-phrase .result ≤ start c .args .at + 15
+named-end c = phrase-ends _ (c .put-phrase .ensures) (omega arith)
 
-lost-end : (c : tie.After-put-item2) → c .put-item2 .result ≤ start (named c) .args .at + 29
-lost-end c = omega (arith, named-end (named c), item-ends _ (c .put-item2 .ensures) (omega arith))
+lost-end : (c : tie.After-put-phrase2) → c .put-phrase2 .result ≤ start (named c) .args .at + 29
+lost-end c = omega (arith, named-end (named c), phrase-ends _ (c .put-phrase2 .ensures) (omega arith))
 
 -- ---- the answers
 
@@ -56,17 +56,17 @@ returns c =
     let choose = none .before .before .before .before .before in
     rw (choose .before .before .before .if1 .taken) (text-then (choose .put-word .ensures) (text-then (none .put-word2 .ensures) (w .put-word3 .ensures)))
 
-slice-aggregate-put-item : tie.Need-slice-aggregate-put-item
-slice-aggregate-put-item c = search needs
+slice-aggregate-put-phrase : tie.Need-slice-aggregate-put-phrase
+slice-aggregate-put-phrase c = search needs
 
-put-item-requires : tie.Need-put-item-requires
-put-item-requires c κs = search needs
+put-phrase-requires : tie.Need-put-phrase-requires
+put-phrase-requires c κs = search needs
 
-slice-aggregate-put-item-2 : tie.Need-slice-aggregate-put-item-2
-slice-aggregate-put-item-2 c = search needs
+slice-aggregate-put-phrase-2 : tie.Need-slice-aggregate-put-phrase-2
+slice-aggregate-put-phrase-2 c = search needs
 
-put-item-requires-2 : tie.Need-put-item-requires-2
-put-item-requires-2 c κs = omega (arith, named-end (c .before .before .before .before))
+put-phrase-requires-2 : tie.Need-put-phrase-requires-2
+put-phrase-requires-2 c κs = omega (arith, named-end (c .before .before .before .before))
 
 slice-aggregate-put-word-4 : tie.Need-slice-aggregate-put-word-4
 slice-aggregate-put-word-4 c = search needs
@@ -83,7 +83,7 @@ returns-2 c =
     let w = c .before .before in
     let l = w .before .before .before .before .before in
     let n = named l in
-    rw (choice-named (n .before .before .before .if1 .left)) (text-then (n .put-item .ensures) (text-then (l .put-item2 .ensures) (w .put-word4 .ensures)))
+    rw (choice-named (n .before .before .before .if1 .left)) (text-then (n .put-phrase .ensures) (text-then (l .put-phrase2 .ensures) (w .put-word4 .ensures)))
 
 pub put-choice-line-spec : {M : Type 1} → statement M
 put-choice-line-spec =
@@ -97,10 +97,10 @@ put-choice-line-spec =
     put-word-requires-3
     same-length
     returns
-    slice-aggregate-put-item
-    put-item-requires
-    slice-aggregate-put-item-2
-    put-item-requires-2
+    slice-aggregate-put-phrase
+    put-phrase-requires
+    slice-aggregate-put-phrase-2
+    put-phrase-requires-2
     slice-aggregate-put-word-4
     put-word-requires-4
     same-length-2

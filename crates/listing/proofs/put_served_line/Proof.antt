@@ -2,36 +2,36 @@
 use native.Mathlib.Omega.{arith}
 use Rattle.listing.specs.Listing.{servedWord, lineEnd, servedLine}
 use Rattle.listing.proofs.Texts.{text-then}
-use Rattle.listing.proofs.Decimals.{item-ends}
+use Rattle.listing.proofs.Decimals.{phrase-ends}
 use borrow.Author.Needs.{needs}
 use Rattle.listing.proofs.put_served_line.Statement.{statement}
 use Rattle.listing.proofs.put_served_line.Tie as tie
 
-slice-aggregate-put-item : tie.Need-slice-aggregate-put-item
-slice-aggregate-put-item c = search needs
+slice-aggregate-put-phrase : tie.Need-slice-aggregate-put-phrase
+slice-aggregate-put-phrase c = search needs
 
-put-item-requires : tie.Need-put-item-requires
-put-item-requires c κs = search needs
+put-phrase-requires : tie.Need-put-phrase-requires
+put-phrase-requires c κs = search needs
 
 slice-aggregate-put-word : tie.Need-slice-aggregate-put-word
 slice-aggregate-put-word c = search needs
 
 put-word-requires : tie.Need-put-word-requires
-put-word-requires c κs = omega (arith, item-ends _ (c .before .before .before .before .put-item .ensures) (omega arith))
+put-word-requires c κs = omega (arith, phrase-ends _ (c .before .before .before .before .put-phrase .ensures) (omega arith))
 
 same-length : tie.Need-same-length
 same-length c = search needs
 
 returns : tie.Need-returns
 unfolding servedLine servedWord lineEnd
-returns c = let w = c .before .before in text-then (w .before .before .before .before .before .put-item .ensures) (w .put-word .ensures)
+returns c = let w = c .before .before in text-then (w .before .before .before .before .before .put-phrase .ensures) (w .put-word .ensures)
 
 pub put-served-line-spec : {M : Type 1} → statement M
 put-served-line-spec =
     tie.close
     (tie.spec
-    slice-aggregate-put-item
-    put-item-requires
+    slice-aggregate-put-phrase
+    put-phrase-requires
     slice-aggregate-put-word
     put-word-requires
     same-length

@@ -1,16 +1,16 @@
--- `put_item` puts the word and the digits behind it. Assumes nothing.
+-- `put_phrase` puts the word and the digits behind it. Assumes nothing.
 use mathlib.Core.Path.{_≡_, ap, _∙_}
 use Prim.Native.Nat.{ℕ}
 use native.Mathlib.Omega.{arith}
 use lib.ListN.{length, take}
 use Rattle.io.specs.Digits.{digits}
 use Rattle.listing.specs.Decimal.{decimal}
-use Rattle.listing.specs.Listing.{item}
+use Rattle.listing.specs.Listing.{phrase}
 use Rattle.listing.proofs.Texts.{text-then}
 use Rattle.listing.proofs.Decimals.{fewest-places, decimal-short}
 use borrow.Author.Needs.{needs}
-use Rattle.listing.proofs.put_item.Statement.{statement}
-use Rattle.listing.proofs.put_item.Tie as tie
+use Rattle.listing.proofs.put_phrase.Statement.{statement}
+use Rattle.listing.proofs.put_phrase.Tie as tie
 
 -- where the function begins, and where the word is put
 abbrev start : tie.After-decimal → tie.Start
@@ -45,13 +45,13 @@ same-length : tie.Need-same-length
 same-length c = search needs
 
 returns : tie.Need-returns
-unfolding item
+unfolding phrase
 returns c =
     let w = worded (c .before .before .before) in
     rw (shown (w .before .before)) at (text-then (w .put-word .ensures) (c .before .before .put-word2 .ensures))
 
-pub put-item-spec : {M : Type 1} → statement M
-put-item-spec =
+pub put-phrase-spec : {M : Type 1} → statement M
+put-phrase-spec =
     tie.close
     (tie.spec
     decimal-requires
