@@ -1,4 +1,4 @@
--- A repeated link counts once, and so does a repeated service link: no call tells it. Assumes nothing.
+-- A repeated link counts once, and so does a repeated service link, in all that is weighed, chosen, checked, shown and done. Assumes nothing.
 use mathlib.Core.Path.{_≡_, sym, ap, _∙_}
 use mathlib.Core.Bool.{_&&_, cond}
 use mathlib.Core.List.{List, [], _∷_, _++_}

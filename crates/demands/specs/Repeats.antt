@@ -13,8 +13,9 @@ use Rattle.checker.specs.Answers.{checking}
 use Rattle.acts.specs.declared.Act.{Act}
 use Rattle.acts.specs.Answers.{acting, actBytes}
 
--- no call tells one picture from the other
+-- what is weighed, chosen, checked, shown and done is the same for both pictures
 pub record Alike (bs bs′ : List ℕ) : Type 0 where
+  -- any block
   pub weighs : (b : ℕ) → weighing bs b ≡ weighing bs′ b
   -- choose answers the same, and leaves the same bytes in any buffer
   pub chooses : (buf : List ℕ) → choosing bs buf ≡ choosing bs′ buf
