@@ -87,9 +87,9 @@ enum blockplan_refusal {
     BLOCKPLAN_REFUSED_SHORT = 1,      /* the picture is shorter than a header, or than its header says */
     BLOCKPLAN_REFUSED_EDITION = 2,    /* its edition is not 1 */
     BLOCKPLAN_REFUSED_BLOCKS = 3,     /* block size, slots or number of blocks out of range, or slots not a multiple of the block size;
-                                         write: also where states and near marks differ in number */
+                                         write: also where states and near bits differ in number */
     BLOCKPLAN_REFUSED_COUNTS = 4,     /* number of endpoints, links or service links out of range;
-                                         write: also where weights and protection marks differ in number */
+                                         write: also where weights and protected bits differ in number */
     BLOCKPLAN_REFUSED_STATE = 5,      /* a slot in state 3; write: in state 3 or above */
     BLOCKPLAN_REFUSED_LINK = 6,       /* a link or service link names what is not there */
     BLOCKPLAN_REFUSED_FILL = 7,       /* fill bits not zero, or bytes left */
@@ -112,7 +112,7 @@ enum blockplan_refusal {
 int32_t blockplan_choose(const uint8_t *picture, size_t picture_length, uint8_t *evidence, size_t evidence_length);
 
 /*
- * Checks evidence, from whatever maker, against a picture. Returns 0 where it keeps all rules of 01. Any other evidence that passes for the
+ * Checks evidence, from whatever maker, against a picture. Returns 0 where it keeps all rules. Any other evidence that passes for the
  * same picture has the same verdict and the same loss. Refuses with 1 to 7, then 13 to 16.
  */
 int32_t blockplan_check(const uint8_t *picture, size_t picture_length, const uint8_t *evidence, size_t evidence_length);
