@@ -1,1 +1,2 @@
-// The owner's third demand as one statement over the definitions that the contracts cite, and its proof. There is no code here.
+// Statements over the definitions that the contracts cite, with their proofs: the owner's third demand, and that repeated links count once.
+// There is no code here.
