@@ -11,7 +11,7 @@ use Rattle.graph.specs.Rounds.{reachedIn}
 use Rattle.picture.specs.Picture.{Picture, Slot, pictureOf, slotOf, endpointOf}
 use Rattle.picture.specs.Faults.{pictureFault}
 use Rattle.network.specs.Words.{slotCount, endpointCount, blockCount, inBlock, isHeld, heldWithout, joins, weightOf, Named}
-use Rattle.network.specs.Tests.{marks, served, weightWhere, servedWeight, weighed}
+use Rattle.network.specs.Tests.{marks, served, sumWhere, servedWeight, weighed}
 use Rattle.network.proofs.Named.{accepted-named}
 use Rattle.network.proofs.Evicting.{loss-off}
 use Rattle.acts.specs.declared.Act.{Act}
@@ -61,9 +61,9 @@ module _ {a : Act} (n : Empties a) (p : Picture) (b : ℕ) where
   emptied-marks = ap₂ (λ (f : ℕ → Bool) (k : ℕ). reachedIn (joins (p .links)) f k) (fun-ext emptied-held) (slots-acted a p b)
 
   -- and serves what is served without the block
-  emptied-serves : servedWeight (actOn a p b) ≡ weightWhere p (served p (marks p (heldWithout p b)))
-  unfolding servedWeight weightWhere weightOf endpointOf endpointCount served actOn
-  emptied-serves = ap (λ (t : List Bool). weightWhere p (served p t)) emptied-marks
+  emptied-serves : servedWeight (actOn a p b) ≡ sumWhere p (weightOf p) (served p (marks p (heldWithout p b)))
+  unfolding servedWeight sumWhere weightOf endpointOf endpointCount served actOn
+  emptied-serves = ap (λ (t : List Bool). sumWhere p (weightOf p) (served p t)) emptied-marks
 
   -- so it takes the block's loss from the served weight
   pub emptied-weight : Named p → servedWeight (actOn a p b) + weighed p b .loss ≡ servedWeight p

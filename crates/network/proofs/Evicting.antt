@@ -7,8 +7,8 @@ use Rattle.lists.proofs.Tests.{and-T}
 use Rattle.graph.specs.Chains.{Chain}
 use Rattle.graph.specs.Chains.Chain.{origin, step}
 use Rattle.picture.specs.Picture.{Picture}
-use Rattle.network.specs.Words.{inBlock, isHeld, heldWithout, Served, Named}
-use Rattle.network.specs.Tests.{marks, served, cut, weightWhere, servedWeight, weighed}
+use Rattle.network.specs.Words.{inBlock, isHeld, heldWithout, weightOf, Served, Named}
+use Rattle.network.specs.Tests.{marks, served, cut, sumWhere, servedWeight, weighed}
 use Rattle.network.proofs.Service.{marked-served, served-marked}
 use Rattle.network.proofs.Weights.{where-split}
 
@@ -35,8 +35,8 @@ unfolding heldWithout
 without-held p b v t = and-T (isHeld p v) (not (inBlock p b v)) t .0
 
 -- so what is served now is what is served without the block, and what the block cuts
-pub loss-off : {p : Picture} → Named p → (b : ℕ) → weightWhere p (served p (marks p (heldWithout p b))) + weighed p b .loss ≡ servedWeight p
+pub loss-off : {p : Picture} → Named p → (b : ℕ) → sumWhere p (weightOf p) (served p (marks p (heldWithout p b))) + weighed p b .loss ≡ servedWeight p
 unfolding servedWeight weighed cut
 loss-off {p} n b =
-    where-split p (served p (marks p (isHeld p))) (served p (marks p (heldWithout p b)))
+    where-split p (weightOf p) (served p (marks p (isHeld p))) (served p (marks p (heldWithout p b)))
     (λ c t. served-marked n (served-more (without-held p b) (marked-served p (heldWithout p b) c t)))

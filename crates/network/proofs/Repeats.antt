@@ -14,8 +14,8 @@ use Rattle.graph.specs.Rounds.{reachedIn}
 use Rattle.picture.specs.declared.Link.{Link}
 use Rattle.picture.specs.Picture.{Slot, Endpoint, Picture, slotOf, endpointOf}
 use Rattle.picture.specs.Rules.{noLink}
-use Rattle.network.specs.Words.{slotCount, endpointCount, blockCount, inBlock, isHeld, heldWithout, joins, weightOf, Served, Cuts, Weight, ServedWeight, Loss, CutsProtected, Candidate}
-use Rattle.network.specs.Tests.{marks, served, cut, weightWhere, servedWeight, weighed, isNearHeld, isCandidate, candidates}
+use Rattle.network.specs.Words.{slotCount, endpointCount, blockCount, inBlock, isHeld, heldWithout, joins, weightOf, Served, Cuts, Sum, ServedWeight, Loss, CutCount, CutsProtected, Candidate}
+use Rattle.network.specs.Tests.{marks, served, cut, sumWhere, servedWeight, weighed, isNearHeld, isCandidate, candidates}
 use Rattle.network.specs.Repeats.{Repeats, same, again, Repeated}
 use Rattle.network.proofs.Named.{joins-at}
 use Rattle.network.proofs.Weights.{total-same}
@@ -86,8 +86,8 @@ module _ {p q : Picture} {b : ℕ} where
         near = subst (λ (f : ℕ → Slot). T (f (k .slot) .near)) s (k .near);
       }
 
-weight-on : {P Q : ℕ → Type 0} {w w′ : ℕ → ℕ} {k k′ s : ℕ} → w ≡ w′ → k ≡ k′ → ((c : ℕ) → P c ↔ Q c) → Total P w 1 k s → Total Q w′ 1 k′ s
-weight-on {Q = Q} {s = s} w k e t = subst₂ (λ (f : ℕ → ℕ) (n : ℕ). Total Q f 1 n s) w k (total-same e t)
+sum-on : {P Q : ℕ → Type 0} {w w′ : ℕ → ℕ} {k k′ s : ℕ} → w ≡ w′ → k ≡ k′ → ((c : ℕ) → P c ↔ Q c) → Total P w 1 k s → Total Q w′ 1 k′ s
+sum-on {Q = Q} {s = s} w k e t = subst₂ (λ (f : ℕ → ℕ) (n : ℕ). Total Q f 1 n s) w k (total-same e t)
 
 -- ---- two pictures that differ in repeats alone
 
@@ -149,9 +149,9 @@ module _ {p q : Picture} (r : Repeated p q) where
   unfolding served
   repeated-service = fun-ext (λ t. fun-ext (λ c. repeats-any (λ l. getD t (l .from) false && eqb (l .to) c) (r .serviceLinks)))
 
-  same-where : weightWhere p ≡ weightWhere q
-  unfolding weightWhere
-  same-where = λ i f. sum (map (λ c. on (f c) (same-weight i c)) (range 1 (same-endpoints i)))
+  same-where : sumWhere p ≡ sumWhere q
+  unfolding sumWhere
+  same-where = λ i w f. sum (map (λ c. on (f c) (w c)) (range 1 (same-endpoints i)))
 
   same-cut : cut p ≡ cut q
   unfolding cut
@@ -159,7 +159,7 @@ module _ {p q : Picture} (r : Repeated p q) where
 
   pub repeated-served-weight : servedWeight p ≡ servedWeight q
   unfolding servedWeight
-  repeated-served-weight = λ i. same-where i (repeated-service i (repeated-marks i (same-held i)))
+  repeated-served-weight = λ i. same-where i (same-weight i) (repeated-service i (repeated-marks i (same-held i)))
 
   pub repeated-weighed : weighed p ≡ weighed q
   unfolding weighed
@@ -168,7 +168,8 @@ module _ {p q : Picture} (r : Repeated p q) where
       let hit : ℕ → Bool = same-cut i (repeated-marks i (same-held i)) (repeated-marks i (same-left i b)) in
       record {
         block = b;
-        loss = same-where i hit;
+        loss = same-where i (same-weight i) hit;
+        cuts = same-where i (λ _. 1) hit;
         mark = on (any (λ c. same-endpoint i c .protected && hit c) (range 1 (same-endpoints i))) 1;
       }
 
@@ -196,14 +197,17 @@ module _ {p q : Picture} (r : Repeated p q) where
     protected-on (sym same-endpoints) (sym same-endpoint) (λ c. Iff·symm (repeated-cuts b c)),
   )
 
-  weight-same : {P Q : ℕ → Type 0} → ((c : ℕ) → P c ↔ Q c) → (s : ℕ) → Weight p P s ↔ Weight q Q s
-  weight-same e s = (weight-on same-weight same-endpoints e, weight-on (sym same-weight) (sym same-endpoints) (λ c. Iff·symm (e c)))
+  sum-same : {w w′ : ℕ → ℕ} {P Q : ℕ → Type 0} → w ≡ w′ → ((c : ℕ) → P c ↔ Q c) → (s : ℕ) → Sum p w P s ↔ Sum q w′ Q s
+  sum-same w e s = (sum-on w same-endpoints e, sum-on (sym w) (sym same-endpoints) (λ c. Iff·symm (e c)))
 
   pub repeated-weight : (held : ℕ → Bool) (s : ℕ) → ServedWeight p held s ↔ ServedWeight q held s
-  repeated-weight held = weight-same (repeated-served held)
+  repeated-weight held = sum-same same-weight (repeated-served held)
 
   pub repeated-loss : (b s : ℕ) → Loss p b s ↔ Loss q b s
-  repeated-loss b = weight-same (repeated-cuts b)
+  repeated-loss b = sum-same same-weight (repeated-cuts b)
+
+  pub repeated-cut-count : (b s : ℕ) → CutCount p b s ↔ CutCount q b s
+  repeated-cut-count b = sum-same refl (repeated-cuts b)
 
   pub repeated-candidate : (b : ℕ) → Candidate p b ↔ Candidate q b
   repeated-candidate b = (candidate-on same-block same-held same-slot, candidate-on (sym same-block) (sym same-held) (sym same-slot))

@@ -1,4 +1,4 @@
--- Served weight, loss and mark are what the chains say, and weights are small numbers. Assumes nothing.
+-- Served weight, loss, number of cuts and mark are what the chains say, and weights are small numbers. Assumes nothing.
 use mathlib.Core.Path.{_≡_, refl, sym, subst}
 use mathlib.Core.Bool.{Bool, not, _&&_}
 use mathlib.Core.Logic.{_↔_, ⊎-elim}
@@ -19,8 +19,8 @@ use Rattle.picture.specs.Picture.{Picture, Endpoint, headerOf, pictureOf, endpo
 use Rattle.picture.specs.Faults.{pictureFault}
 use Rattle.picture.proofs.Starts.{field-first, endpoint-row}
 use Rattle.picture.proofs.Accepted.{accepted-kept}
-use Rattle.network.specs.Words.{endpointCount, isHeld, heldWithout, weightOf, Served, Cuts, ServedWeight, Loss, CutsProtected, Named}
-use Rattle.network.specs.Tests.{marks, served, cut, weightWhere, weighed}
+use Rattle.network.specs.Words.{endpointCount, isHeld, heldWithout, weightOf, Served, Cuts, Sum, ServedWeight, Loss, CutCount, CutsProtected, Named}
+use Rattle.network.specs.Tests.{marks, served, cut, sumWhere, weighed}
 use Rattle.network.proofs.Named.{endpoints-counted}
 use Rattle.network.proofs.Service.{marked-served, served-marked, cut-cuts, cuts-cut}
 
@@ -31,13 +31,21 @@ hurts : Picture → ℕ → ℕ → Bool
 hurts p b c = endpointOf p c .protected && cut p (marks p (isHeld p)) (marks p (heldWithout p b)) c
 
 module _ {p : Picture} (n : Named p) where
-  pub served-weight : (held : ℕ → Bool) → ServedWeight p held (weightWhere p (served p (marks p held)))
-  unfolding weightWhere
+  pub served-weight : (held : ℕ → Bool) → ServedWeight p held (sumWhere p (weightOf p) (served p (marks p held)))
+  unfolding sumWhere
   served-weight held = total (Served p held) (weightOf p) (served p (marks p held)) (marked-served p held) (λ c s. served-marked n s) 1 (endpointCount p)
 
+  cut-sum : (b : ℕ) (w : ℕ → ℕ) → Sum p w (Cuts p b) (sumWhere p w (cut p (marks p (isHeld p)) (marks p (heldWithout p b))))
+  unfolding sumWhere
+  cut-sum b w = total (Cuts p b) w (cut p (marks p (isHeld p)) (marks p (heldWithout p b))) (cut-cuts n b) (λ c k. cuts-cut n k) 1 (endpointCount p)
+
   pub loss-weight : (b : ℕ) → Loss p b (weighed p b .loss)
-  unfolding weighed weightWhere
-  loss-weight b = total (Cuts p b) (weightOf p) (cut p (marks p (isHeld p)) (marks p (heldWithout p b))) (cut-cuts n b) (λ c k. cuts-cut n k) 1 (endpointCount p)
+  unfolding weighed
+  loss-weight b = cut-sum b (weightOf p)
+
+  pub cuts-counted : (b : ℕ) → CutCount p b (weighed p b .cuts)
+  unfolding weighed
+  cuts-counted b = cut-sum b (λ _. 1)
 
   pub mark-protected : (b : ℕ) → weighed p b .mark ≡ 1 → CutsProtected p b
   unfolding weighed hurts
@@ -55,9 +63,9 @@ module _ {p : Picture} (n : Named p) where
       on-pass (any (hurts p b) (range 1 (endpointCount p))) 1 (range-any (hurts p b) 1 (endpointCount p) (record { number = c; from = k .some; below = omega (arith, k .most); passes = t }))
 
 -- the sum over what one test picks of what another does, and the rest
-pub where-split : (p : Picture) (f g : ℕ → Bool) → ((c : ℕ) → T (g c) → T (f c)) → weightWhere p g + weightWhere p (λ c. f c && not (g c)) ≡ weightWhere p f
-unfolding weightWhere
-where-split p f g m = sum-split (weightOf p) f g m 1 (endpointCount p)
+pub where-split : (p : Picture) (w : ℕ → ℕ) (f g : ℕ → Bool) → ((c : ℕ) → T (g c) → T (f c)) → sumWhere p w g + sumWhere p w (λ c. f c && not (g c)) ≡ sumWhere p w f
+unfolding sumWhere
+where-split p w f g m = sum-split w f g m 1 (endpointCount p)
 
 -- a sum over the places at which P holds is one over those at which Q does, where these are the same
 module _ {P Q : ℕ → Type 0} {w : ℕ → ℕ} (e : (c : ℕ) → P c ↔ Q c) where
@@ -92,8 +100,8 @@ module _ (bs : List ℕ) where
       inside h = rw (endpoint-row (editionOf bs) (headerOf bs) bs c (h .0) (omega (arith, endpoints-counted bs))) (weight-field _)
 
   -- at most 200 endpoints: 200 * 65535 < 2 ^ 24
-  pub weights-small : pictureFault bs ≡ 0 → (f : ℕ → Bool) → weightWhere (pictureOf bs) f < 2 ^ 24
-  unfolding weightWhere
+  pub weights-small : pictureFault bs ≡ 0 → (f : ℕ → Bool) → sumWhere (pictureOf bs) (weightOf (pictureOf bs)) f < 2 ^ 24
+  unfolding sumWhere
   weights-small z f =
       omega (
         arith,

@@ -23,22 +23,23 @@ served p t c = any (λ l. getD t (l .from) false && eqb (l .to) c) (p .serviceLi
 unfoldable pub cut : Picture → List Bool → List Bool → ℕ → Bool
 cut p now without c = served p now c && not (served p without c)
 
--- the sum of the weights of the endpoints that a test picks, each once
-unfoldable pub weightWhere : Picture → (ℕ → Bool) → ℕ
-weightWhere p f = sum (map (λ c. on (f c) (weightOf p c)) (range 1 (endpointCount p)))
+-- the sum of w over the endpoints that a test picks, each once
+unfoldable pub sumWhere : Picture → (ℕ → ℕ) → (ℕ → Bool) → ℕ
+sumWhere p w f = sum (map (λ c. on (f c) (w c)) (range 1 (endpointCount p)))
 
 -- the served weight
 unfoldable pub servedWeight : Picture → ℕ
-servedWeight p = let now : List Bool = marks p (isHeld p) in weightWhere p (served p now)
+servedWeight p = let now : List Bool = marks p (isHeld p) in sumWhere p (weightOf p) (served p now)
 
--- what weighing a block gives: its loss, and its mark (1 if it cuts a protected endpoint, else 0)
+-- what weighing a block gives: its loss, how many endpoints it cuts, and its mark (1 if it cuts a protected one, else 0)
 unfoldable pub weighed : Picture → ℕ → Cost
 weighed p b =
     let now : List Bool = marks p (isHeld p) in
     let without : List Bool = marks p (heldWithout p b) in
     record {
       block = b;
-      loss = weightWhere p (cut p now without);
+      loss = sumWhere p (weightOf p) (cut p now without);
+      cuts = sumWhere p (λ _. 1) (cut p now without);
       mark = on (any (λ c. endpointOf p c .protected && cut p now without c) (range 1 (endpointCount p))) 1;
     }
 

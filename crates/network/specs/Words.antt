@@ -55,17 +55,21 @@ pub record Cuts (p : Picture) (b c : ℕ) : Type 0 where
 unfoldable pub weightOf : Picture → ℕ → ℕ
 weightOf p c = endpointOf p c .weight
 
--- w is the sum of the weights of the endpoints of which P holds, each once
-abbrev pub Weight : Picture → (ℕ → Type 0) → ℕ → Type 0
-Weight p P w = Total P (weightOf p) 1 (endpointCount p) w
+-- s is the sum of w over the endpoints of which P holds, each once
+abbrev pub Sum : Picture → (ℕ → ℕ) → (ℕ → Type 0) → ℕ → Type 0
+Sum p w P s = Total P w 1 (endpointCount p) s
 
 -- the served weight is the sum of the weights of the endpoints served, each once
 abbrev pub ServedWeight : Picture → (ℕ → Bool) → ℕ → Type 0
-ServedWeight p held = Weight p (Served p held)
+ServedWeight p held = Sum p (weightOf p) (Served p held)
 
 -- the loss of b is the sum of the weights of the endpoints that it cuts, each once
 abbrev pub Loss : Picture → ℕ → ℕ → Type 0
-Loss p b = Weight p (Cuts p b)
+Loss p b = Sum p (weightOf p) (Cuts p b)
+
+-- how many endpoints b cuts, each once, whatever it weighs
+abbrev pub CutCount : Picture → ℕ → ℕ → Type 0
+CutCount p b = Sum p (λ _. 1) (Cuts p b)
 
 -- b cuts a protected endpoint
 pub record CutsProtected (p : Picture) (b : ℕ) : Type 0 where

@@ -24,10 +24,11 @@ pub struct SlotRows {
     pub near: [u64; WORDS],
 }
 
-// What giving up a block costs: the weight that is lost, and the mark (1 if a protected endpoint is cut, else 0).
+// What giving up a block costs: the weight that is lost, how many endpoints are cut, and the mark (1 if a protected one is, else 0).
 pub struct Cost {
     pub block: usize,
     pub loss: usize,
+    pub cuts: usize,
     pub mark: usize,
 }
 

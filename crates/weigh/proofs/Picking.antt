@@ -8,10 +8,12 @@ use lib.Dec.{T, not-T}
 use lib.ListN.{getD}
 use Rattle.lists.specs.Lists.{range, on, sum, any}
 use Rattle.lists.proofs.Ends.{sum-more, any-more}
+use Rattle.lists.proofs.Faults.{on-le}
 use Rattle.lists.proofs.Tests.{and-T, T-and}
 use Rattle.rows.specs.Rows.{marked, Minus, Meet}
 use Rattle.picture.specs.Layout.{weightMax}
-use Rattle.weigh.specs.Sums.{Meets, LostRow, LostBetween, weightBetween, markBetween}
+use Rattle.weigh.specs.Sums.{Meets, LostRow, LostBetween, sumBetween, markBetween}
+use Rattle.weigh.specs.declared.Lost.{Lost}
 
 -- two rows have a mark in common or they do not
 pub meet-one : (row other : List ℕ) (f g : Bool) → Meet row other f → Meet row other g → f ≡ g
@@ -38,31 +40,42 @@ module _ (row before after gone : List ℕ) (m : Minus before after gone) where
       absurd (k .apart tt (c .0) (c .1) (subst T (sym (m .marks (c .0))) (T-and (marked before (c .0)) (not (marked after (c .0))) (c .2) (not-T (marked after (c .0)) (b .apart tt (c .0) (c .1))))))
 
 -- the endpoints from 1 up to c are looked at
-pub record Picking (table : List (List ℕ)) (weights guarded before after : List ℕ) (weight mark c : ℕ) : Type 0 where
+pub record Picking (table : List (List ℕ)) (weights guarded before after : List ℕ) (lost : Lost) (c : ℕ) : Type 0 where
   pub some : 1 ≤ c
-  pub small : weight ≤ (c - 1) * weightMax
-  pub weighs : (f g : ℕ → Bool) → Meets table before f → Meets table after g → weight ≡ weightBetween weights (c - 1) f g
-  pub marks : (f g : ℕ → Bool) → Meets table before f → Meets table after g → mark ≡ markBetween guarded (c - 1) f g
+  pub small : lost .weight ≤ (c - 1) * weightMax
+  pub few : lost .count ≤ c - 1
+  pub between : LostBetween table weights guarded (c - 1) before after lost
 
 module _ (table : List (List ℕ)) (weights guarded before after : List ℕ) where
-  pub picking-begun : Picking table weights guarded before after 0 0 1
-  unfolding weightBetween markBetween range sum any on
-  picking-begun = record { some = omega arith; small = omega arith; weighs = λ f g a b. refl; marks = λ f g a b. refl }
-
-  -- one endpoint more: it is lost or it is not
-  pub picking-next : (weight mark weight′ mark′ c : ℕ) (lost : Bool) → Picking table weights guarded before after weight mark c → getD weights c 0 ≤ weightMax
-      → LostRow (getD table c []) before after lost → weight′ ≡ weight + on lost (getD weights c 0) → on (marked guarded c && lost) 1 + on (not (marked guarded c && lost)) mark ≡ mark′
-      → Picking table weights guarded before after weight′ mark′ (c + 1)
-  unfolding weightBetween markBetween
-  picking-next weight mark weight′ mark′ c lost p h l e m =
+  pub picking-begun : Picking table weights guarded before after (record { weight = 0; count = 0; mark = 0 }) 1
+  unfolding sumBetween markBetween range sum any on
+  picking-begun =
       record {
         some = omega arith;
-        small = omega (arith, p .small, more lost);
-        weighs = λ f g a b. e ∙ ap₂ (λ (x y : ℕ). x + y) (p .weighs f g a b) (ap (λ (x : Bool). on x (getD weights c 0)) (here f g a b)) ∙ sum-next f g;
-        marks =
-            λ f g a b.
-            sym m ∙ ap₂ (λ (x : Bool) (y : ℕ). on (marked guarded c && x) 1 + on (not (marked guarded c && x)) y) (here f g a b) (p .marks f g a b)
-            ∙ either (any (test f g) (range 1 (c - 1))) (test f g c) ∙ ap (λ (x : Bool). on x 1) (any-next f g);
+        small = omega arith;
+        few = omega arith;
+        between = record { weighs = λ f g a b. refl; counts = λ f g a b. refl; marks = λ f g a b. refl };
+      }
+
+  -- one endpoint more: it is lost (`hit`) or it is not
+  pub picking-next : (lost lost′ : Lost) (c : ℕ) (hit : Bool) → Picking table weights guarded before after lost c → getD weights c 0 ≤ weightMax
+      → LostRow (getD table c []) before after hit → lost′ .weight ≡ lost .weight + on hit (getD weights c 0) → lost′ .count ≡ lost .count + on hit 1
+      → on (marked guarded c && hit) 1 + on (not (marked guarded c && hit)) (lost .mark) ≡ lost′ .mark → Picking table weights guarded before after lost′ (c + 1)
+  unfolding sumBetween markBetween
+  picking-next lost lost′ c hit p h l e k m =
+      record {
+        some = omega arith;
+        small = omega (arith, p .small, on-le hit (getD weights c 0) weightMax (λ _. h));
+        few = omega (arith, p .few, on-le hit 1 1 (λ _. omega arith));
+        between =
+            record {
+              weighs = λ f g a b. e ∙ more (λ u. getD weights u 0) f g a b (p .between .weighs f g a b);
+              counts = λ f g a b. k ∙ more (λ _. 1) f g a b (p .between .counts f g a b);
+              marks =
+                  λ f g a b.
+                  sym m ∙ ap₂ (λ (x : Bool) (y : ℕ). on (marked guarded c && x) 1 + on (not (marked guarded c && x)) y) (here f g a b) (p .between .marks f g a b)
+                  ∙ either (any (test f g) (range 1 (c - 1))) (test f g c) ∙ ap (λ (x : Bool). on x 1) (any-next f g);
+            };
       }
     where
       test : (ℕ → Bool) → (ℕ → Bool) → ℕ → Bool
@@ -74,19 +87,15 @@ module _ (table : List (List ℕ)) (weights guarded before after : List ℕ) whe
       last : 1 + (c - 1) ≡ c
       last = omega (arith, p .some)
 
-      more : (b : Bool) → on b (getD weights c 0) ≤ weightMax
-      more true = unfold on in h
-      more false = unfold on in omega arith
-
-      here : (f g : ℕ → Bool) → Meets table before f → Meets table after g → lost ≡ (f c && not (g c))
+      here : (f g : ℕ → Bool) → Meets table before f → Meets table after g → hit ≡ (f c && not (g c))
       here f g a b = l .same (f c) (g c) (a .meet c) (b .meet c)
 
-      sum-next : (f g : ℕ → Bool) → sum (map (λ u. on (f u && not (g u)) (getD weights u 0)) (range 1 (c - 1))) + on (f c && not (g c)) (getD weights c 0)
-          ≡ sum (map (λ u. on (f u && not (g u)) (getD weights u 0)) (range 1 (c + 1 - 1)))
-      sum-next f g =
-          sym
-          (ap (λ (k : ℕ). sum (map (λ u. on (f u && not (g u)) (getD weights u 0)) (range 1 k))) back ∙ sum-more (λ u. on (f u && not (g u)) (getD weights u 0)) 1 (c - 1)
-          ∙ ap (λ (k : ℕ). sum (map (λ u. on (f u && not (g u)) (getD weights u 0)) (range 1 (c - 1))) + on (f k && not (g k)) (getD weights k 0)) last)
+      more : (w : ℕ → ℕ) (f g : ℕ → Bool) → Meets table before f → Meets table after g → {s : ℕ} → s ≡ sumBetween w (c - 1) f g
+          → s + on hit (w c) ≡ sumBetween w (c + 1 - 1) f g
+      more w f g a b s =
+          let each : ℕ → ℕ = λ u. on (f u && not (g u)) (w u) in
+          ap₂ (λ (x y : ℕ). x + y) s (ap (λ (x : Bool). on x (w c)) (here f g a b))
+          ∙ sym (ap (λ (k : ℕ). sum (map each (range 1 k))) back ∙ sum-more each 1 (c - 1) ∙ ap (λ (k : ℕ). sum (map each (range 1 (c - 1))) + each k) last)
 
       any-next : (f g : ℕ → Bool) → (any (test f g) (range 1 (c - 1)) || test f g c) ≡ any (test f g) (range 1 (c + 1 - 1))
       any-next f g =
@@ -100,12 +109,7 @@ module _ (table : List (List ℕ)) (weights guarded before after : List ℕ) whe
       either false false = unfold on in refl
 
   -- every endpoint was looked at
-  pub picking-ended : (weight mark c d : ℕ) → Picking table weights guarded before after weight mark c → c ≡ d + 1 → LostBetween table weights guarded d before after weight mark
-  picking-ended weight mark c d p e =
-      record {
-        weighs = λ f g a b. p .weighs f g a b ∙ ap (λ (k : ℕ). weightBetween weights k f g) all;
-        marks = λ f g a b. p .marks f g a b ∙ ap (λ (k : ℕ). markBetween guarded k f g) all;
-      }
-    where
-      all : c - 1 ≡ d
-      all = omega arith
+  pub picking-ended : (lost : Lost) (c d : ℕ) → Picking table weights guarded before after lost c → c ≡ d + 1 → LostBetween table weights guarded d before after lost
+  picking-ended lost c d p e =
+      let all : c - 1 ≡ d = omega arith in
+      subst (λ (k : ℕ). LostBetween table weights guarded k before after lost) all (p .between)

@@ -1,6 +1,6 @@
 -- What the rows of a picture give: the walk over them reaches what chains reach, their common marks are service, and the sums over them
 -- are the weights of the specification. Assumes nothing.
-use mathlib.Core.Path.{_≡_, sym, ap, ap₂, _∙_, subst, subst₂, fun-ext}
+use mathlib.Core.Path.{_≡_, refl, sym, ap, ap₂, _∙_, subst, subst₂, fun-ext}
 use mathlib.Core.Bool.{Bool, false, not, _&&_, _||_, and-true}
 use mathlib.Core.List.{List, [], map}
 use Prim.Native.Nat.{ℕ, zero, suc, _+_, _*_, _≤_}
@@ -19,12 +19,13 @@ use Rattle.picture.specs.declared.Header.{Header}
 use Rattle.picture.specs.Picture.{Picture, pictureOf, endpointOf}
 use Rattle.picture.specs.Inner.{Read}
 use Rattle.picture.proofs.Facts.{read-limited}
-use Rattle.network.specs.Words.{endpointCount, inBlock, isHeld, heldWithout, joins, Named}
-use Rattle.network.specs.Tests.{marks, served, cut, weightWhere, servedWeight, weighed}
+use Rattle.network.specs.Words.{endpointCount, inBlock, isHeld, heldWithout, joins, weightOf, Named}
+use Rattle.network.specs.Tests.{marks, served, cut, sumWhere, servedWeight, weighed}
 use Rattle.network.specs.Rows.{RowsOf, SlotRowsOf, EndpointsOf, BlockRow}
 use Rattle.network.proofs.Service.{marked-served, served-marked}
 use Rattle.network.proofs.Weights.{weight-small}
-use Rattle.weigh.specs.Sums.{Small, Meets, LostBetween, weightBetween, markBetween}
+use Rattle.weigh.specs.Sums.{Small, Meets, LostBetween, sumBetween, markBetween}
+use Rattle.weigh.specs.declared.Lost.{Lost}
 
 -- ---- the walk
 
@@ -85,10 +86,10 @@ pub sums-ready : (bs : List ℕ) (h : Header) → Read bs h → {serves : ℕ �
 sums-ready bs h r t e = (record { many = e .many; weight = λ c. rw (e .weight c) (weight-small bs c) }, t .many, read-limited bs h r .counts .endpoints-most)
 
 module _ (p : Picture) (weights guarded : List ℕ) (e : EndpointsOf p weights guarded) (d : ℕ) (many : d ≡ endpointCount p) (f g : ℕ → Bool) where
-  pub between-weight : weightBetween weights d f g ≡ weightWhere p (λ c. f c && not (g c))
-  unfolding weightBetween weightWhere
-  between-weight =
-      ap₂ (λ (h : ℕ → ℕ) (k : ℕ). sum (map h (range 1 k))) (fun-ext (λ c. ap (λ (x : ℕ). on (f c && not (g c)) x) (e .weight c))) many
+  pub between-sum : {w w′ : ℕ → ℕ} → ((c : ℕ) → w c ≡ w′ c) → sumBetween w d f g ≡ sumWhere p w′ (λ c. f c && not (g c))
+  unfolding sumBetween sumWhere
+  between-sum same =
+      ap₂ (λ (h : ℕ → ℕ) (k : ℕ). sum (map h (range 1 k))) (fun-ext (λ c. ap (λ (x : ℕ). on (f c && not (g c)) x) (same c))) many
 
   pub between-mark : markBetween guarded d f g ≡ on (any (λ c. endpointOf p c .protected && (f c && not (g c))) (range 1 (endpointCount p))) 1
   unfolding markBetween
@@ -96,30 +97,34 @@ module _ (p : Picture) (weights guarded : List ℕ) (e : EndpointsOf p weights g
       ap₂ (λ (h : ℕ → Bool) (k : ℕ). on (any h (range 1 k)) 1) (fun-ext (λ c. ap (λ (x : Bool). x && (f c && not (g c))) (e .protected c))) many
 
 -- with nothing left, what is lost is all that is served
-pub all-served : (p : Picture) (f : ℕ → Bool) → weightWhere p (λ c. f c && not false) ≡ weightWhere p f
-all-served p f = ap (weightWhere p) (fun-ext (λ c. and-true (f c)))
+pub all-served : (p : Picture) (w : ℕ → ℕ) (f : ℕ → Bool) → sumWhere p w (λ c. f c && not false) ≡ sumWhere p w f
+all-served p w f = ap (sumWhere p w) (fun-ext (λ c. and-true (f c)))
 
 -- ---- what weighing gives, by the rows of what is reached
 
 module _ {p : Picture} {table : List (List ℕ)} {weights guarded : List ℕ} {d : ℕ} (e : EndpointsOf p weights guarded) (many : d ≡ endpointCount p) {row : List ℕ}
     (now : Meets table row (served p (marks p (isHeld p)))) where
-  pub served-met : {none : List ℕ} {w m : ℕ} → ((v : ℕ) → ¬ T (marked none v)) → LostBetween table weights guarded d row none w m → w ≡ servedWeight p
+  pub served-met : {none : List ℕ} {lost : Lost} → ((v : ℕ) → ¬ T (marked none v)) → LostBetween table weights guarded d row none lost → lost .weight ≡ servedWeight p
   unfolding servedWeight
   served-met {none} n l =
       l .weighs (served p (marks p (isHeld p))) (λ _. false) now (none-served table none n)
-      ∙ between-weight p weights guarded e d many (served p (marks p (isHeld p))) (λ _. false) ∙ all-served p (served p (marks p (isHeld p)))
+      ∙ between-sum p weights guarded e d many (served p (marks p (isHeld p))) (λ _. false) (e .weight) ∙ all-served p (weightOf p) (served p (marks p (isHeld p)))
 
-  module _ (b : ℕ) {row′ : List ℕ} (without : Meets table row′ (served p (marks p (heldWithout p b)))) {w m : ℕ} (l : LostBetween table weights guarded d row row′ w m) where
+  module _ (b : ℕ) {row′ : List ℕ} (without : Meets table row′ (served p (marks p (heldWithout p b)))) {lost : Lost} (l : LostBetween table weights guarded d row row′ lost) where
     before : ℕ → Bool
     before = served p (marks p (isHeld p))
 
     after : ℕ → Bool
     after = served p (marks p (heldWithout p b))
 
-    pub loss-met : w ≡ weighed p b .loss
+    pub loss-met : lost .weight ≡ weighed p b .loss
     unfolding weighed cut before after
-    loss-met = l .weighs before after now without ∙ between-weight p weights guarded e d many before after
+    loss-met = l .weighs before after now without ∙ between-sum p weights guarded e d many before after (e .weight)
 
-    pub mark-met : m ≡ weighed p b .mark
+    pub cuts-met : lost .count ≡ weighed p b .cuts
+    unfolding weighed cut before after
+    cuts-met = l .counts before after now without ∙ between-sum p weights guarded e d many before after (λ _. refl)
+
+    pub mark-met : lost .mark ≡ weighed p b .mark
     unfolding weighed cut before after
     mark-met = l .marks before after now without ∙ between-mark p weights guarded e d many before after

@@ -7,6 +7,7 @@ use lib.ListN.{length, getD}
 use Rattle.lists.specs.Lists.{range, on, sum, any}
 use Rattle.rows.specs.Rows.{marked, Meet}
 use Rattle.picture.specs.Layout.{endpointsMax, weightMax}
+use Rattle.weigh.specs.declared.Lost.{Lost}
 
 -- a row has a mark in common with one row and none with another
 pub record LostRow (row before after : List ℕ) (lost : Bool) : Type 0 where
@@ -16,18 +17,19 @@ pub record LostRow (row before after : List ℕ) (lost : Bool) : Type 0 where
 pub record Meets (table : List (List ℕ)) (row : List ℕ) (f : ℕ → Bool) : Type 0 where
   pub meet : (c : ℕ) → Meet (getD table c []) row (f c)
 
--- the weight of the endpoints 1 to d that the first test picks and the second does not
-unfoldable pub weightBetween : List ℕ → ℕ → (ℕ → Bool) → (ℕ → Bool) → ℕ
-weightBetween weights d f g = sum (map (λ c. on (f c && not (g c)) (getD weights c 0)) (range 1 d))
+-- the sum of w over the endpoints 1 to d that the first test picks and the second does not
+unfoldable pub sumBetween : (ℕ → ℕ) → ℕ → (ℕ → Bool) → (ℕ → Bool) → ℕ
+sumBetween w d f g = sum (map (λ c. on (f c && not (g c)) (w c)) (range 1 d))
 
 -- 1 if one of them is protected, else 0
 unfoldable pub markBetween : List ℕ → ℕ → (ℕ → Bool) → (ℕ → Bool) → ℕ
 markBetween guarded d f g = on (any (λ c. marked guarded c && (f c && not (g c))) (range 1 d)) 1
 
 -- what the locations of one row serve and those of another do not: the table has a row of serving locations for each endpoint
-pub record LostBetween (table : List (List ℕ)) (weights guarded : List ℕ) (d : ℕ) (before after : List ℕ) (weight mark : ℕ) : Type 0 where
-  pub weighs : (f g : ℕ → Bool) → Meets table before f → Meets table after g → weight ≡ weightBetween weights d f g
-  pub marks : (f g : ℕ → Bool) → Meets table before f → Meets table after g → mark ≡ markBetween guarded d f g
+pub record LostBetween (table : List (List ℕ)) (weights guarded : List ℕ) (d : ℕ) (before after : List ℕ) (lost : Lost) : Type 0 where
+  pub weighs : (f g : ℕ → Bool) → Meets table before f → Meets table after g → lost .weight ≡ sumBetween (λ c. getD weights c 0) d f g
+  pub counts : (f g : ℕ → Bool) → Meets table before f → Meets table after g → lost .count ≡ sumBetween (λ _. 1) d f g
+  pub marks : (f g : ℕ → Bool) → Meets table before f → Meets table after g → lost .mark ≡ markBetween guarded d f g
 
 -- no weight is above the limit
 pub record Small (weights : List ℕ) : Type 0 where

@@ -31,9 +31,10 @@ pub enum Weighing {
     Refused(u8),
 }
 
-// The weight of some endpoints, and 1 if one of them is protected, else 0.
+// The weight of some endpoints, how many they are, and 1 if one of them is protected, else 0.
 pub struct Lost {
     pub weight: u32,
+    pub count: u8,
     pub mark: u8,
 }
 
@@ -69,10 +70,11 @@ pub fn lost_between(
     after: [u64; WORDS],
 ) -> Lost
     requires { ⌜ Small (now weights) × (length (now services) ≡ suc endpointsMax) × (d ≤ endpointsMax) ⌝ }
-    ensures { λ r. ⌜ LostBetween (now (services .entry)) (now (weights .entry)) protected d before after (r .weight) (r .mark) ⌝ }
+    ensures { λ r. ⌜ LostBetween (now (services .entry)) (now (weights .entry)) protected d before after r ⌝ }
 {
     let gone = rows::minus(before, after);
     let mut weight: u32 = 0;
+    let mut count: u8 = 0;
     let mut mark: u8 = 0;
     let mut c: usize = 1;
     while c <= d {
@@ -80,13 +82,14 @@ pub fn lost_between(
         let lost = is_lost(row, gone, after);
         if lost {
             weight += weights[c];
+            count += 1;
         }
         if is_lost_protected(lost, &protected, c) {
             mark = 1;
         }
         c += 1;
     }
-    Lost { weight, mark }
+    Lost { weight, count, mark }
 }
 
 // Weighs a block of an accepted picture.

@@ -11,23 +11,25 @@ use Rattle.lists.specs.Lists.{on}
 use Rattle.rows.specs.Rows.{marked, Minus}
 use Rattle.picture.specs.Layout.{endpointsMax}
 use Rattle.weigh.specs.Sums.{Small}
+use Rattle.weigh.specs.declared.Lost.{Lost}
 use Rattle.weigh.proofs.Picking.{Picking, picking-begun, picking-next, picking-ended}
 use borrow.Author.Needs.{needs}
 use Rattle.weigh.proofs.lost_between.Statement.{statement}
 use Rattle.weigh.proofs.lost_between.Tie as tie
 
-record Loop (services : List (List ℕ)) (weights protected : List ℕ) (d : ℕ) (gone after : List ℕ) (weight mark c : ℕ) : Type 0 where
+record Loop (services : List (List ℕ)) (weights protected : List ℕ) (d : ℕ) (gone after : List ℕ) (lost : Lost) (c : ℕ) : Type 0 where
   pub within : c ≤ d + 1
   pub few : d ≤ endpointsMax
   pub many : length services ≡ suc endpointsMax
   pub small : Small weights
-  pub picking : (before : List ℕ) → Minus before after gone → Picking services weights protected before after weight mark c
+  pub picking : (before : List ℕ) → Minus before after gone → Picking services weights protected before after lost c
 
 abbrev Inv-loop : tie.InvT-loop
-Inv-loop services weights d after protected gone weight₀ mark₀ c₀ weight mark c = Loop services weights protected d gone after weight mark c
+Inv-loop services weights d after protected gone weight₀ count₀ mark₀ c₀ weight count mark c =
+    Loop services weights protected d gone after (record { weight = weight; count = count; mark = mark }) c
 
 abbrev μ-loop : tie.MeasureT-loop
-μ-loop services weights d after protected gone weight₀ mark₀ c₀ weight mark c = d + 1 - c
+μ-loop services weights d after protected gone weight₀ count₀ mark₀ c₀ weight count mark c = d + 1 - c
 
 -- the places of the code: the loop's test, and where the endpoint at hand is found lost or not
 abbrev turn : tie.After-is-lost Inv-loop μ-loop → tie.At-loop Inv-loop μ-loop
@@ -44,6 +46,14 @@ weight-next c =
     let l = turn (c .before) in
     let sum : Bool → ℕ = λ b. l .loop .weight + on b (getD (l .before .before .args .weights .now) (l .loop .c) 0) in
     ⊎-elim (λ x. x .2 ∙ ap sum (sym (x .0 .taken))) (λ x. x .1 ∙ sym (ap sum (x .0 .left) ∙ add-zero (l .loop .weight))) (c .if1 .came)
+
+-- and it is counted
+count-next : (c : tie.Joined1 Inv-loop μ-loop) → let l = turn (c .before) in c .if1 .count ≡ l .loop .count + on (c .before .is-lost .result) 1
+unfolding on
+count-next c =
+    let l = turn (c .before) in
+    let sum : Bool → ℕ = λ b. l .loop .count + on b 1 in
+    ⊎-elim (λ x. x .3 ∙ ap sum (sym (x .0 .taken))) (λ x. x .2 ∙ sym (ap sum (x .0 .left) ∙ add-zero (l .loop .count))) (c .if1 .came)
 
 -- a lost protected endpoint sets the mark
 mark-next : (c : tie.Joined2 Inv-loop μ-loop) → let k = looked c in let l = turn k in
@@ -83,6 +93,11 @@ add-weight c =
     let l = turn (c .before .before) in
     omega (arith, l .loop .inv .picking _ (l .before .minus .ensures) .small, l .loop .inv .small .weight (l .loop .c))
 
+add-count : tie.Need-add-count Inv-loop μ-loop
+add-count c =
+    let l = turn (c .before .before) in
+    omega (arith, l .loop .inv .picking _ (l .before .minus .ensures) .few, l .loop .inv .few)
+
 is-lost-protected-requires : tie.Need-is-lost-protected-requires Inv-loop μ-loop
 is-lost-protected-requires c κs = search needs
 
@@ -101,12 +116,12 @@ loop-again c =
       many = l .inv .many;
       small = l .inv .small;
       picking = λ before m.
-          picking-next _ _ _ _ _ (l .weight) (l .mark) _ _ (l .c) _ (l .inv .picking before m) (l .inv .small .weight (l .c)) (looked c .is-lost .ensures before m)
-          (weight-next (c .before .before .before)) (mark-next c);
+          picking-next _ _ _ _ _ _ _ (l .c) _ (l .inv .picking before m) (l .inv .small .weight (l .c)) (looked c .is-lost .ensures before m)
+          (weight-next (c .before .before .before)) (count-next (c .before .before .before)) (mark-next c);
     }
 
 returns : tie.Need-returns Inv-loop μ-loop
-returns c = picking-ended _ _ _ _ _ _ _ (c .before .loop .c) _ (c .before .loop .inv .picking _ (c .before .before .minus .ensures)) (omega (arith, c .before .loop .inv .within))
+returns c = picking-ended _ _ _ _ _ _ (c .before .loop .c) _ (c .before .loop .inv .picking _ (c .before .before .minus .ensures)) (omega (arith, c .before .loop .inv .within))
 
 pub lost-between-spec : {M : Type 1} → statement M
 lost-between-spec =
@@ -122,6 +137,7 @@ lost-between-spec =
     mul-weight
     element-copy-out-weight
     add-weight
+    add-count
     is-lost-protected-requires
     add-c
     loop-less
