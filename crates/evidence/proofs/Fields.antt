@@ -149,8 +149,8 @@ module _ (bs : List ℕ) (z : pictureFault bs ≡ 0) where
   -- the choice is one of the weighings, or 0, 0 and 0
   pub choice-fits : (least (weighings (pictureOf bs)) .verdict ≤ 1) × (least (weighings (pictureOf bs)) .block < blocksMax) × (least (weighings (pictureOf bs)) .loss < 2 ^ 24)
   choice-fits = ⊎-elim
-      (λ r. (omega (arith, r .verdict), omega (arith, r .block, block-at (r .at) (r .within)), rw (r .loss) (loss-at (r .at) (r .within))))
-      (λ r. (omega (arith, r .verdict), omega (arith, r .block), omega (arith, r .loss)))
+      (λ r. rw (r .same) (omega arith, block-at (r .at) (r .within), loss-at (r .at) (r .within)))
+      (λ r. rw (r .same) (omega arith, omega arith, omega arith))
       (least-right (weighings p))
 
   head-fits : Fit (head-of edition1 p)

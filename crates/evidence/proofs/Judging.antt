@@ -1,5 +1,5 @@
 -- The tests of evidence say what its rules say: its form, a section, the served weight and the verdict. Assumes nothing.
-use mathlib.Core.Path.{_≡_, sym, _∙_, subst}
+use mathlib.Core.Path.{_≡_, sym, ap, _∙_, subst}
 use mathlib.Core.Bool.{Bool, _&&_, cond}
 use mathlib.Core.Logic.{_≢_, ⊎-elim, by-cases}
 use mathlib.Core.List.{List, []}
@@ -25,8 +25,8 @@ use Rattle.evidence.specs.Contents.{headIn, sectionIn, sectionForest}
 use Rattle.evidence.specs.Checks.{forestRight, headRight, sectionRight, sectionsRight, formRight, verdictRight, isNamed}
 use Rattle.evidence.specs.Rules.{Form, SectionCost, Verdict, chosen, none}
 use Rattle.lists.proofs.Every.{all-range, range-all}
-use Rattle.evidence.proofs.Least.{Chosen, Nothing, least-right, least-none, none-least}
-use Rattle.evidence.proofs.Choosing.{least-loss, least-best, best-least, marked-cut, cut-marked}
+use Rattle.evidence.proofs.Least.{Chosen, Nothing, least-right, none-least}
+use Rattle.evidence.proofs.Choosing.{Least, least-same, least-best, best-least, marked-cut, cut-marked}
 
 -- ---- 13: the form
 
@@ -113,7 +113,7 @@ module _ {p : Picture} (n : Named p) (e : Edition) (ev : List ℕ) (i b : ℕ) w
 
 -- the test of the verdict, by what the head says
 verdictTest : List Cost → ℕ → ℕ → ℕ → Bool
-verdictTest ws v b l = eqb v (least ws .verdict) && (eqb l (least ws .loss) && cond (eqb (least ws .verdict) 0) (eqb b 0) (any (isNamed b (least ws .loss)) ws))
+verdictTest ws v b l = eqb v (least ws .verdict) && (eqb l (least ws .loss) && cond (eqb (least ws .verdict) 0) (eqb b 0) (any (isNamed b (least ws)) ws))
 
 module _ {p : Picture} (n : Named p) (below : (b : ℕ) → Candidate p b → b < blockCount p) where
   ws : List Cost
@@ -126,47 +126,51 @@ module _ {p : Picture} (n : Named p) (below : (b : ℕ) → Candidate p b → b 
   unfolding verdictTest isNamed ws c
   test-verdict v b l t =
       let t1 = and-T (eqb v (c .verdict)) _ t in
-      let t2 = and-T (eqb l (c .loss)) (cond (eqb (c .verdict) 0) (eqb b 0) (any (isNamed b (c .loss)) ws)) (t1 .1) in
+      let t2 = and-T (eqb l (c .loss)) (cond (eqb (c .verdict) 0) (eqb b 0) (any (isNamed b c) ws)) (t1 .1) in
       ⊎-elim (some (eqb→eq v (c .verdict) (t1 .0)) (eqb→eq l (c .loss) (t2 .0)) (t2 .1)) (nothing (eqb→eq v (c .verdict) (t1 .0)) (eqb→eq l (c .loss) (t2 .0)) (t2 .1)) (least-right ws)
     where
-      some : v ≡ c .verdict → l ≡ c .loss → T (cond (eqb (c .verdict) 0) (eqb b 0) (any (isNamed b (c .loss)) ws)) → Chosen ws c → Verdict p v b l
+      some : v ≡ c .verdict → l ≡ c .loss → T (cond (eqb (c .verdict) 0) (eqb b 0) (any (isNamed b c) ws)) → Chosen ws c → Verdict p v b l
       some ev el u k =
-          let deep : c .verdict ≢ 0 = λ z. absurd (omega (arith, k .verdict)) in
-          let r = any-at (getD [] 0 noCost) (isNamed b (c .loss)) ws (subst (λ (x : Bool). T (cond x (eqb b 0) (any (isNamed b (c .loss)) ws))) (ne-eqb (c .verdict) 0 deep) u) in
+          let one = ap (λ (x : Choice). x .verdict) (k .same) in
+          let deep : c .verdict ≢ 0 = λ z. absurd (omega (arith, one)) in
+          let r = any-at (getD [] 0 noCost) (isNamed b c) ws (subst (λ (x : Bool). T (cond x (eqb b 0) (any (isNamed b c) ws))) (ne-eqb (c .verdict) 0 deep) u) in
           let w = getD ws (r .at) noCost in
-          let s1 = and-T (eqb (w .block) b) (eqb (w .mark) 0 && eqb (w .loss) (c .loss)) (r .passes) in
-          let s2 = and-T (eqb (w .mark) 0) (eqb (w .loss) (c .loss)) (s1 .1) in
-          rw (ev ∙ k .verdict)
-          (chosen (least-best n below (record {
+          let s1 = and-T (eqb (w .block) b) (eqb (w .mark) 0 && (eqb (w .loss) (c .loss) && eqb (w .cuts) (c .cuts))) (r .passes) in
+          let s2 = and-T (eqb (w .mark) 0) (eqb (w .loss) (c .loss) && eqb (w .cuts) (c .cuts)) (s1 .1) in
+          let s3 = and-T (eqb (w .loss) (c .loss)) (eqb (w .cuts) (c .cuts)) (s2 .1) in
+          let named : Choice = record { verdict = 1; block = b; loss = c .loss; cuts = c .cuts } in
+          let best : Least ws named =
+          record {
             at = r .at;
             within = r .within;
             clear = eqb→eq (w .mark) 0 (s2 .0);
-            block = eqb→eq (w .block) b (s1 .0);
-            loss = eqb→eq (w .loss) (c .loss) (s2 .1) ∙ sym el;
-            least = λ j h m. omega (arith, k .least j h m);
-          })))
+            same = λ i. record { verdict = 1; block = eqb→eq (w .block) b (s1 .0) i; loss = eqb→eq (w .loss) (c .loss) (s3 .0) i; cuts = eqb→eq (w .cuts) (c .cuts) (s3 .1) i };
+            least = λ j h m. let o = k .least j h m in record { loss = o .loss; cuts = o .cuts };
+          } in
+          rw (ev ∙ one, el) (chosen (least-best n below best))
 
-      nothing : v ≡ c .verdict → l ≡ c .loss → T (cond (eqb (c .verdict) 0) (eqb b 0) (any (isNamed b (c .loss)) ws)) → Nothing ws c → Verdict p v b l
+      nothing : v ≡ c .verdict → l ≡ c .loss → T (cond (eqb (c .verdict) 0) (eqb b 0) (any (isNamed b c) ws)) → Nothing ws c → Verdict p v b l
       nothing ev el u k =
-          let z : b ≡ 0 = eqb→eq b 0 (subst (λ (x : Bool). T (cond x (eqb b 0) (any (isNamed b (c .loss)) ws))) (eq-eqb (c .verdict) 0 (k .verdict)) u) in
-          rw (ev ∙ k .verdict, z, el ∙ k .loss) (none (marked-cut n below (k .marked)))
+          let no = ap (λ (x : Choice). x .verdict) (k .same) in
+          let z : b ≡ 0 = eqb→eq b 0 (subst (λ (x : Bool). T (cond x (eqb b 0) (any (isNamed b c) ws))) (eq-eqb (c .verdict) 0 no) u) in
+          rw (ev ∙ no, z, el ∙ ap (λ (x : Choice). x .loss) (k .same)) (none (marked-cut n below (k .marked)))
 
   verdict-test : (v b l : ℕ) → Verdict p v b l → T (verdictTest (weighings p) v b l)
   unfolding verdictTest isNamed ws c
   verdict-test v b l (chosen t) =
       let k = best-least n below t in
-      let q = least-loss k in
+      let q = least-same k in
       let w = getD ws (k .at) noCost in
       let deep : c .verdict ≢ 0 = λ z. absurd (omega arith) in
       T-and (eqb 1 (c .verdict)) _ (eq-T 1 (c .verdict) (sym (q .0)))
       (T-and (eqb l (c .loss)) _ (eq-T l (c .loss) (sym (q .1)))
       (rw (ne-eqb (c .verdict) 0 deep)
-      (at-any (getD [] 0 noCost) (isNamed b (c .loss)) ws (k .at) (k .within)
-      (T-and (eqb (w .block) b) _ (eq-T (w .block) b (k .block)) (T-and (eqb (w .mark) 0) _ (eq-T (w .mark) 0 (k .clear)) (eq-T (w .loss) (c .loss) (k .loss ∙ sym (q .1))))))))
-  verdict-test v b l (none k) =
-      let z = none-least ws (cut-marked n below k) in
-      let y = least-none ws z in
-      rw (z, y .loss) tt
+      (at-any (getD [] 0 noCost) (isNamed b c) ws (k .at) (k .within)
+      (T-and (eqb (w .block) b) _ (eq-T (w .block) b (ap (λ (x : Choice). x .block) (k .same)))
+      (T-and (eqb (w .mark) 0) _ (eq-T (w .mark) 0 (k .clear))
+      (T-and (eqb (w .loss) (c .loss)) _ (eq-T (w .loss) (c .loss) (ap (λ (x : Choice). x .loss) (k .same) ∙ sym (q .1)))
+      (eq-T (w .cuts) (c .cuts) (ap (λ (x : Choice). x .cuts) (k .same) ∙ sym (q .2)))))))))
+  verdict-test v b l (none k) = rw (none-least ws (cut-marked n below k)) tt
 
   pub right-verdict : (ev : List ℕ) → T (verdictRight ev (weighings p)) → Verdict p (headIn ev .verdict) (headIn ev .block) (headIn ev .loss)
   unfolding verdictRight verdictTest isNamed

@@ -45,17 +45,12 @@ module _ (p : Picture) where
       let s : i < length (candidates p) = omega (arith, weighings-length) in
       record { block = getD (candidates p) i 0; candidate = candidates-are p i s; same = weighing-at i s }
 
-  -- sections with the block, the loss and the mark of each candidate, in their order, state the weighings
-  pub weighings-stated : (f : ℕ → Cost) → ((i : ℕ) → i < length (candidates p) → f i .block ≡ getD (candidates p) i 0)
-      → ((i : ℕ) → i < length (candidates p) → (f i .loss ≡ weighed p (getD (candidates p) i 0) .loss) × (f i .mark ≡ weighed p (getD (candidates p) i 0) .mark))
+  -- what has the numbers of each candidate, in their order, is the weighings
+  pub weighings-made : (f : ℕ → Cost) → ((i : ℕ) → i < length (candidates p) → f i ≡ weighed p (getD (candidates p) i 0))
       → map f (range 0 (length (candidates p))) ≡ weighings p
-  weighings-stated f blocks numbers =
+  weighings-made f same =
       rw (← weighings-length)
-      (range-made noCost f (weighings p)
-      (λ i h.
-      let s : i < length (candidates p) = omega (arith, weighings-length) in
-      let b = blocks i s ∙ sym (weighed-block p (getD (candidates p) i 0)) in
-      (λ j. record { block = b j; loss = numbers i s .0 j; mark = numbers i s .1 j }) ∙ sym (weighing-at i s)))
+      (range-made noCost f (weighings p) (λ i h. let s : i < length (candidates p) = omega (arith, weighings-length) in same i s ∙ sym (weighing-at i s)))
 
 -- ---- the mark
 

@@ -18,7 +18,7 @@ use Rattle.evidence.specs.Layout.{headWidths, nodeWidths, sectionHeadWid
 
 -- a cost that no list has, for a place past its end
 abbrev pub noCost : Cost
-noCost = record { block = 0; loss = 0; mark = 0 }
+noCost = record { block = 0; loss = 0; cuts = 0; mark = 0 }
 
 -- the candidates as they weigh, in rising order
 unfoldable pub weighings : Picture → List Cost
@@ -26,21 +26,25 @@ weighings p = map (weighed p) (candidates p)
 
 -- nothing is chosen: "none" is verdict 0 with block 0 and loss 0
 abbrev pub noChoice : Choice
-noChoice = record { verdict = 0; block = 0; loss = 0 }
+noChoice = record { verdict = 0; block = 0; loss = 0; cuts = 0 }
 
--- the order of choice: the choice with one candidate more, whose number is above all before. It is taken where it cuts no protected
--- endpoint, and none was chosen before or one that loses more
+-- the order of choice (02, C-12: "by weight, then cabs cut, then block number"): a candidate loses less or, where it loses as much, it cuts
+-- fewer endpoints. The candidates come in rising order, so that of equal ones the lowest stays
+unfoldable pub isLess : Cost → Choice → Bool
+isLess w c = cond (eqb (w .loss) (c .loss)) (ltb (w .cuts) (c .cuts)) (ltb (w .loss) (c .loss))
+
+-- the choice with one candidate more: it is taken where it cuts no protected endpoint, and none was chosen before or it comes before that one
 unfoldable pub bettered : Choice → Cost → Choice
 bettered c w =
-    let this : Choice = record { verdict = 1; block = w .block; loss = w .loss } in
-    cond (eqb (w .mark) 0 && (eqb (c .verdict) 0 || ltb (w .loss) (c .loss))) this c
+    let this : Choice = record { verdict = 1; block = w .block; loss = w .loss; cuts = w .cuts } in
+    cond (eqb (w .mark) 0 && (eqb (c .verdict) 0 || isLess w c)) this c
 
 -- the choice after each candidate of a list
 unfoldable pub bettering : Choice → List Cost → Choice
 bettering c [] = c
 bettering c (w ∷ ws) = bettering (bettered c w) ws
 
--- the admissible candidate of least loss, the lowest number among equals, or none
+-- the admissible candidate of least loss, of these one that cuts fewest endpoints, the lowest number among equals, or none
 unfoldable pub least : List Cost → Choice
 least ws = bettering noChoice ws
 

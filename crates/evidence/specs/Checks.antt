@@ -73,17 +73,17 @@ sectionFault e p ev ws i =
     ∷ on (not (eqb (sectionIn e n ev i .loss) (w .loss) && eqb (sectionIn e n ev i .mark) (w .mark))) 15
     ∷ [])
 
--- a weighing is of this block and this loss, and without a mark
-unfoldable pub isNamed : ℕ → ℕ → Cost → Bool
-isNamed block loss w = eqb (w .block) block && (eqb (w .mark) 0 && eqb (w .loss) loss)
+-- a weighing is of this block, without a mark, and loses and cuts as much as the choice
+unfoldable pub isNamed : ℕ → Choice → Cost → Bool
+isNamed block c w = eqb (w .block) block && (eqb (w .mark) 0 && (eqb (w .loss) (c .loss) && eqb (w .cuts) (c .cuts)))
 
--- 16: the verdict, its block and its loss are as the sections imply. Any least admissible candidate will do
+-- 16: the verdict, its block and its loss are as the sections imply. Any admissible candidate will do that loses least and of those cuts fewest
 unfoldable pub verdictRight : List ℕ → List Cost → Bool
 verdictRight ev ws =
     let c : Choice = least ws in
     eqb (headIn ev .verdict) (c .verdict)
     && (eqb (headIn ev .loss) (c .loss)
-    && cond (eqb (c .verdict) 0) (eqb (headIn ev .block) 0) (any (isNamed (headIn ev .block) (c .loss)) ws))
+    && cond (eqb (c .verdict) 0) (eqb (headIn ev .block) 0) (any (isNamed (headIn ev .block) c) ws))
 
 -- the number of the first fault, or 0 where the evidence passes for the picture
 unfoldable pub checkFault : List ℕ → List ℕ → ℕ

@@ -5,8 +5,8 @@ use Rattle.lists.specs.Lists.{sum}
 use Rattle.graph.specs.declared.Node.{Node}
 use Rattle.picture.specs.Layout.{Edition, fieldIn}
 use Rattle.picture.specs.Picture.{rows}
-use Rattle.network.specs.declared.Cost.{Cost}
 use Rattle.evidence.specs.declared.Head.{Head}
+use Rattle.evidence.specs.declared.Stated.{Stated}
 use Rattle.evidence.specs.Layout.{headWidths, nodeWidths, sectionHeadWidths, sectionAt, forestAt}
 
 -- the head: edition, verdict, block, candidate count, served weight, loss
@@ -22,7 +22,7 @@ headIn ev =
     }
 
 -- what section i states: its block, loss and mark
-unfoldable pub sectionIn : Edition → ℕ → List ℕ → ℕ → Cost
+unfoldable pub sectionIn : Edition → ℕ → List ℕ → ℕ → Stated
 sectionIn e n ev i =
     let at : ℕ = sectionAt e n i in
     record { block = fieldIn ev sectionHeadWidths at 0; loss = fieldIn ev sectionHeadWidths at 1; mark = fieldIn ev sectionHeadWidths at 2 }

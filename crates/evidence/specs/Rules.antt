@@ -8,7 +8,7 @@ use Rattle.graph.specs.Kept.{ForestKept}
 use Rattle.picture.specs.Layout.{Edition, editionOf}
 use Rattle.picture.specs.Picture.{Picture, pictureOf}
 use Rattle.picture.specs.Rules.{rules}
-use Rattle.network.specs.Words.{slotCount, isHeld, heldWithout, joins, ServedWeight, Loss, CutsProtected, Candidate, Admissible}
+use Rattle.network.specs.Words.{slotCount, isHeld, heldWithout, joins, ServedWeight, Loss, CutCount, CutsProtected, Candidate, Admissible}
 use Rattle.network.specs.Tests.{candidates}
 use Rattle.evidence.specs.Layout.{evidenceBytes}
 use Rattle.evidence.specs.Contents.{headIn, sectionIn, firstForest, sectionForest}
@@ -32,12 +32,16 @@ pub record SectionCost (e : Edition) (p : Picture) (ev : List ℕ) (i b : ℕ) :
   pub marked : sectionIn e (slotCount p) ev i .mark ≡ 1 → CutsProtected p b
   pub unmarked : CutsProtected p b → sectionIn e (slotCount p) ev i .mark ≡ 1
 
--- 16 where a block is named: a candidate that cuts no protected endpoint, with its loss, and none such loses less
+-- 16 where a block is named: a candidate that cuts no protected endpoint, with its loss, and none such loses less; and of those that lose as
+-- much none cuts fewer endpoints (02, C-12)
 pub record LeastAdmissible (p : Picture) (block loss : ℕ) : Type 0 where
   pub candidate : Candidate p block
   pub admissible : Admissible p block
   pub stated : Loss p block loss
   pub least : (b : ℕ) → Candidate p b → Admissible p b → (w : ℕ) → Loss p b w → loss ≤ w
+  pub cuts : ℕ
+  pub counted : CutCount p block cuts
+  pub fewest : (b : ℕ) → Candidate p b → Admissible p b → Loss p b loss → (k : ℕ) → CutCount p b k → cuts ≤ k
 
 -- 16: verdict 1 with such a block, or verdict 0 with block and loss 0 where every candidate cuts a protected endpoint
 pub data Verdict (p : Picture) : ℕ → ℕ → ℕ → Type 0 where

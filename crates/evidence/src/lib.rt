@@ -5,7 +5,7 @@ ghost use Prim.Native.Nat.{_≤_};
 ghost use Rattle.rows.specs.Rows.{slotsMax};
 ghost use Rattle.picture.specs.Layout.{edition1};
 ghost use Rattle.evidence.specs.Layout.{sectionBits, sectionBytes, sectionAt, forestAt, evidenceBytes};
-ghost use Rattle.evidence.specs.Canonical.{bettered};
+ghost use Rattle.evidence.specs.Canonical.{isLess, bettered};
 ghost use Rattle.evidence.specs.Contents.{headIn, sectionIn};
 use network::Cost;
 use picture::BLOCKS_MAX;
@@ -73,11 +73,19 @@ pub struct Head {
     pub loss: usize,
 }
 
-// A choice: verdict 1 with a block and its loss, or 0, 0 and 0.
+// What a section states before its forest.
+pub struct Stated {
+    pub block: usize,
+    pub loss: usize,
+    pub mark: usize,
+}
+
+// A choice: verdict 1 with a block, its loss and how many endpoints it cuts, or all 0.
 pub struct Choice {
     pub verdict: usize,
     pub block: usize,
     pub loss: usize,
+    pub cuts: usize,
 }
 
 // A part of the evidence, in bytes.
@@ -141,19 +149,29 @@ pub fn head_of(ev: &[u8]) -> Head
 }
 
 // What section i of evidence for n slots states.
-pub fn section_of(ev: &[u8], n: usize, i: usize) -> Cost
+pub fn section_of(ev: &[u8], n: usize, i: usize) -> Stated
     requires { ⌜ (n ≤ slotsMax) × (i ≤ 255) ⌝ }
     ensures { λ r. ⌜ r ≡ sectionIn edition1 n (now (ev .entry)) i ⌝ }
 {
     let at = section_at(n, i);
-    Cost {
+    Stated {
         block: bits::field(ev, at, BLOCK_BITS),
         loss: bits::field(ev, at + SECTION_LOSS_AT, SUM_BITS),
         mark: bits::field(ev, at + SECTION_MARK_AT, MARK_BITS),
     }
 }
 
-// The choice with one candidate more: it is taken where it cuts no protected endpoint, and none was chosen before or one that loses more.
+// Whether a candidate comes before the choice so far: it loses less or, where it loses as much, it cuts fewer endpoints.
+fn is_less(w: Cost, c: Choice) -> bool
+    ensures { λ r. ⌜ r ≡ isLess w c ⌝ }
+{
+    if w.loss == c.loss {
+        return w.cuts < c.cuts;
+    }
+    w.loss < c.loss
+}
+
+// The choice with one candidate more: it is taken where it cuts no protected endpoint, and none was chosen before or it comes before that one.
 pub fn better(c: Choice, w: Cost) -> Choice
     ensures { λ r. ⌜ r ≡ bettered c w ⌝ }
 {
@@ -164,11 +182,12 @@ pub fn better(c: Choice, w: Cost) -> Choice
         verdict: 1,
         block: w.block,
         loss: w.loss,
+        cuts: w.cuts,
     };
     if c.verdict == 0 {
         return this;
     }
-    if w.loss < c.loss {
+    if is_less(w, c) {
         return this;
     }
     c
