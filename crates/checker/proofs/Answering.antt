@@ -16,16 +16,17 @@ use Rattle.picture.specs.Picture.{Picture, pictureOf}
 use Rattle.picture.specs.Faults.{pictureFault}
 use Rattle.network.specs.Words.{slotCount, isHeld}
 use Rattle.network.specs.Tests.{weighed, servedWeight, candidates}
+use Rattle.network.proofs.Weights.{weighed-block}
 use Rattle.evidence.specs.Canonical.{weighings}
 use Rattle.evidence.specs.Contents.{headIn, sectionIn, firstForest}
 use Rattle.evidence.specs.Checks.{forestRight, formRight, sectionFault, verdictRight, checkFault}
 use Rattle.evidence.proofs.Judging.{numbersTest, test-numbers, right-form}
-use Rattle.evidence.proofs.Weighings.{weighings-length, weighing-at, weighings-stated}
+use Rattle.evidence.proofs.Weighings.{weighings-length, weighing-at, weighings-made}
 use Rattle.checker.specs.declared.Checking.{Checking}
 use Rattle.checker.specs.declared.Checking.the-variants.{Passed, Refused}
 use Rattle.checker.specs.Answers.{checkingOf, checking, checkingNumbers}
-use Rattle.checker.specs.Forests.{partFault, partsFault}
-use Rattle.checker.specs.Verdict.{stated}
+use Rattle.checker.specs.Forests.{partFault, partsFault, CutsOf}
+use Rattle.checker.specs.Verdict.{costIn, stated}
 use Rattle.checker.proofs.Going.{parts, part-of}
 
 -- ---- the faults, part by part
@@ -67,16 +68,18 @@ module _ (bs ev : List ℕ) where
 
       module _ (none : 0 ≡ partsFault bs ev) where
         -- what the sections state is what the candidates weigh
-        pub stated-weighings : {n count : ℕ} → slotCount p ≡ n → count ≡ length (candidates p) → stated n ev count ≡ weighings p
-        unfolding stated partFault partsFault sectionFault numbersTest
-        stated-weighings many counted =
+        pub stated-weighings : {n count : ℕ} {cuts : List ℕ} → slotCount p ≡ n → count ≡ length (candidates p) → CutsOf p cuts → stated n ev cuts count ≡ weighings p
+        unfolding stated costIn partFault partsFault sectionFault numbersTest
+        stated-weighings {cuts = cuts} many counted few =
             rw (← many, counted)
-            (weighings-stated p (sectionIn edition1 (slotCount p) ev) (right-form edition1 p ev (rw f tt) .blocks)
+            (weighings-made p (costIn (slotCount p) ev cuts)
             (λ i l.
+            let w = weighed p (getD (candidates p) i 0) in
             let y = first-map-none (partFault bs ev) 0 (parts bs) (sym none) (suc i) (rw length-range (omega arith)) in
             let z = rw (part-of, weighing-at p i l) at y in
-            let w = weighed p (getD (candidates p) i 0) in
-            test-numbers edition1 p ev i w (rw Bool·not-not at (on-zero (not (numbersTest edition1 p ev i w)) 14 (first-zero _ z 1)))))
+            let m = test-numbers edition1 p ev i w (rw Bool·not-not at (on-zero (not (numbersTest edition1 p ev i w)) 14 (first-zero _ z 1))) in
+            let b = right-form edition1 p ev (rw f tt) .blocks i l ∙ sym (weighed-block p (getD (candidates p) i 0)) in
+            λ j. record { block = b j; loss = m .0 j; cuts = few .same i l j; mark = m .1 j }))
 
         -- the verdict is wrong, or nothing is
         pub check-verdict : verdictRight ev (weighings p) ≡ false → 16 ≡ checkFault bs ev

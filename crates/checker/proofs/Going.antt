@@ -1,13 +1,15 @@
 -- Going over the parts of evidence, one by one, up to the first fault. Assumes nothing.
 use mathlib.Core.Path.{_≡_, refl, sym, ap, _∙_, subst, fun-ext}
 use mathlib.Core.Bool.{Bool, true, false}
-use mathlib.Core.Logic.{_≢_}
+use mathlib.Core.Logic.{_⊎_, inl, inr, _≢_, by-cases}
 use mathlib.Core.List.{List, []}
 use Prim.Native.Nat.{ℕ, zero, suc, _+_, _-_, _*_, _^_, _≤_, _<_, zero-le, suc-le-suc}
 use native.Mathlib.Omega.{arith}
+use native.Mathlib.Decide.{ℕ-discrete}
 use native.Mathlib.Nat.{zero-add}
 use lib.Dec.{T}
-use lib.ListN.{length, getD, replicate}
+use lib.ListN.{length, getD, set, replicate, length-set}
+use lib.Seq.{getD-set-same, getD-set-other}
 use Rattle.lists.specs.Lists.{range}
 use Rattle.lists.proofs.Ranges.{length-range}
 use Rattle.lists.proofs.Picks.{getD-range}
@@ -23,14 +25,15 @@ use Rattle.picture.specs.Picture.{Picture, pictureOf}
 use Rattle.picture.specs.Inner.{Read}
 use Rattle.picture.proofs.Facts.{read-sizes}
 use Rattle.network.specs.Words.{slotCount, endpointCount, isHeld, joins, Named}
-use Rattle.network.specs.Tests.{marks, served, candidates}
+use Rattle.network.specs.Tests.{marks, served, weighed, candidates}
 use Rattle.network.specs.Rows.{RowsOf, SlotRowsOf, EndpointsOf}
 use Rattle.network.proofs.Named.{accepted-named}
 use Rattle.network.proofs.Candidates.{candidates-below}
 use Rattle.rows.proofs.Marks.{clear}
+use Rattle.weigh.specs.declared.Lost.{Lost}
 use Rattle.weigh.specs.Sums.{Small, Meets, LostBetween}
 use Rattle.network.proofs.Blocks.{read-slots, read-block-size, read-endpoints, read-block}
-use Rattle.weigh.proofs.Serving.{serving, sums-ready, served-met, loss-met, mark-met}
+use Rattle.weigh.proofs.Serving.{serving, sums-ready, served-met, loss-met, cuts-met, mark-met}
 use Rattle.evidence.specs.Layout.{forestAt}
 use Rattle.evidence.specs.Contents.{sectionIn, forestIn}
 use Rattle.evidence.specs.Checks.{nodeRight, formRight}
@@ -39,10 +42,10 @@ use Rattle.evidence.proofs.Fields.{candidates-few}
 use Rattle.evidence.proofs.Forests.{test-in, in-test}
 use Rattle.evidence.proofs.Judging.{right-form}
 use Rattle.evidence.proofs.Places.{forest-small}
-use Rattle.checker.specs.Forests.{LeftIn, statedTest, partFault, partsFault}
+use Rattle.checker.specs.Forests.{LeftIn, statedTest, partFault, partsFault, CutsOf}
 use Rattle.checker.proofs.Nodes.{forest-length}
 use Rattle.checker.proofs.Following.{Followed, Closed, node-broken, link-broken, inner-in, forest-kept}
-use Rattle.checker.proofs.Parts.{blockAt, heldAt, costAt, part-broken, part-wrong, part-right, formed-block, held-found, stated-found}
+use Rattle.checker.proofs.Parts.{blockAt, heldAt, statedAt, part-broken, part-wrong, part-right, formed-block, held-found, stated-found}
 
 -- the parts of evidence
 abbrev pub parts : List ℕ → List ℕ
@@ -121,6 +124,11 @@ pub record Gone (x : Given) (row : List ℕ) (k : ℕ) : Type 0 where
   pub clean : Clean (faultOf x) 0 (parts (x .bs)) k
   pub reached : 1 ≤ k → Serves x (isHeld (pic x)) row
 
+-- how many endpoints the blocks of the sections before part k cut
+pub record Counted (x : Given) (cuts : List ℕ) (k : ℕ) : Type 0 where
+  pub many : length cuts ≡ blocksMax
+  pub same : (i : ℕ) → suc i < k → getD cuts i 0 ≡ weighed (pic x) (blockAt (pic x) i) .cuts
+
 -- part k is at hand: its forest starts at bit q, and this is held in it
 pub record PartAt (x : Given) (row : List ℕ) (k q : ℕ) (left : List ℕ) : Type 0 where
   pub gone : Gone x row k
@@ -183,6 +191,9 @@ module _ {x : Given} where
   gone-ended {k = k} g l =
       scan-ended (faultOf x) 0 (parts (x .bs)) k (g .clean) (omega (arith, length-range 0 (suc (length (candidates (pic x)))), g .tables .counted))
 
+  pub counted-ended : {cuts : List ℕ} {k : ℕ} → Counted x cuts k → Tables x → x .count < k → CutsOf (pic x) cuts
+  counted-ended c t l = record { many = c .many; same = λ i h. c .same i (omega (arith, t .counted)) }
+
   -- a part is at hand
   pub part-begun : {row : List ℕ} {k q : ℕ} {left : List ℕ} → Gone x row k → k ≤ x .count → q ≡ forestAt edition1 (x .n) k
       → LeftIn (x .held) (x .size) (sectionIn edition1 (x .n) (x .ev) (k - 1) .block) k left → PartAt x row k q left
@@ -192,14 +203,24 @@ module _ {x : Given} where
 
   -- what the sums over the marks of a part come to
   module _ (t : Tables x) {row inner : List ℕ} where
-    sums-found : {k : ℕ} {before after : List ℕ} {w m : ℕ} → Sides row inner k before after → Serves x (heldAt (pic x) k) inner
-        → (1 ≤ k → Serves x (isHeld (pic x)) row) → LostBetween (x .services) (x .weights) (x .guarded) (x .d) before after w m
-        → (w ≡ costAt (pic x) k .loss) × (1 ≤ k → m ≡ costAt (pic x) k .mark)
-    unfolding heldAt costAt
+    sums-found : {k : ℕ} {before after : List ℕ} {lost : Lost} → Sides row inner k before after → Serves x (heldAt (pic x) k) inner
+        → (1 ≤ k → Serves x (isHeld (pic x)) row) → LostBetween (x .services) (x .weights) (x .guarded) (x .d) before after lost
+        → (lost .weight ≡ statedAt (pic x) k .loss) × (1 ≤ k → lost .mark ≡ statedAt (pic x) k .mark)
+    unfolding heldAt statedAt
     sums-found whole now r s = (served-met (t .end-rows) (t .endpoints) now (clear rowWords) s, λ l. absurd (omega arith))
     sums-found (less {i = i}) now r s =
         let all = r (suc-le-suc zero-le) in
         (loss-met (t .end-rows) (t .endpoints) all (blockAt (pic x) i) now s, λ _. mark-met (t .end-rows) (t .endpoints) all (blockAt (pic x) i) now s)
+
+    cuts-found : {k : ℕ} {before after : List ℕ} {lost : Lost} → Sides row inner k before after → Serves x (heldAt (pic x) k) inner
+        → (1 ≤ k → Serves x (isHeld (pic x)) row) → LostBetween (x .services) (x .weights) (x .guarded) (x .d) before after lost
+        → (i : ℕ) → k ≡ suc i → lost .count ≡ weighed (pic x) (blockAt (pic x) i) .cuts
+    unfolding heldAt
+    cuts-found whole now r s i e = absurd (omega arith)
+    cuts-found (less {i = j}) now r s i e =
+        let all = r (suc-le-suc zero-le) in
+        let same : j ≡ i = omega arith in
+        cuts-met (t .end-rows) (t .endpoints) all (blockAt (pic x) j) now s ∙ ap (λ (u : ℕ). weighed (pic x) (blockAt (pic x) u) .cuts) same
 
     still : {k : ℕ} {before after : List ℕ} → Sides row inner k before after → Serves x (heldAt (pic x) k) inner → (1 ≤ k → Serves x (isHeld (pic x)) row)
         → Serves x (isHeld (pic x)) before
@@ -250,8 +271,8 @@ module _ {x : Given} where
     pub part-link : (u : ℕ) → T (marked inner u) → Meet (getD (x .links) u []) outer true → 14 ≡ partsFault (x .bs) (x .ev)
     part-link u m y = broken (i .part) (link-broken len (i .with) (i .minus) (i .followed) (i .ended) u m y)
 
-    module _ {a : ℕ} (c : Closed (x .links) inner outer a) (looked : x .n < a) {before after : List ℕ} (y : Sides row inner k before after) {weight mark : ℕ}
-        (s : LostBetween (x .services) (x .weights) (x .guarded) (x .d) before after weight mark) where
+    module _ {a : ℕ} (c : Closed (x .links) inner outer a) (looked : x .n < a) {before after : List ℕ} (y : Sides row inner k before after) {lost : Lost}
+        (s : LostBetween (x .services) (x .weights) (x .guarded) (x .d) before after lost) where
       kept : Kept x k
       kept =
           let low : (u v : ℕ) → T (linkedIn (x .links) u v) → u ≤ x .n =
@@ -265,15 +286,30 @@ module _ {x : Given} where
           serving (pic x) (heldAt (pic x) k) (g .tables .named) (g .tables .service-rows) (λ v z. kept-reached fit len v (test-in _ v (subst T (here v) z)))
           (λ v z. subst T (sym (here v)) (in-test _ v (reached-kept fit z)))
 
-      stated : statedTest (x .n) (x .ev) k weight mark ≡ statedTest (x .n) (x .ev) k (costAt (pic x) k .loss) (costAt (pic x) k .mark)
+      stated : statedTest (x .n) (x .ev) k (lost .weight) (lost .mark) ≡ statedTest (x .n) (x .ev) k (statedAt (pic x) k .loss) (statedAt (pic x) k .mark)
       stated = let e = sums-found (g .tables) y now (g .reached) s in stated-found (x .bs) (x .ev) (g .tables .many) k (e .0) (e .1)
 
+      -- the number of endpoints that a section's block cuts is kept in its place; the first forest has none
+      pub part-counted : {cuts cuts′ : List ℕ} → Counted x cuts k → ((k ≡ 0) × (cuts′ ≡ cuts)) ⊎ ((k ≢ 0) × (cuts′ ≡ set cuts (k - 1) (lost .count))) → Counted x cuts′ (k + 1)
+      part-counted {cuts} c (inl e) = rw (e .1) (record { many = c .many; same = λ u h. absurd (omega (arith, e .0)) })
+      part-counted {cuts} c (inr e) =
+          let some = e .0 in
+          let room : k - 1 < length cuts = omega (arith, c .many, i .part .most, g .tables .few-parts) in
+          rw (e .1)
+          (record {
+            many = length-set cuts (k - 1) (lost .count) ∙ c .many;
+            same = λ u h.
+                by-cases (ℕ-discrete u (k - 1))
+                (λ q. rw q (getD-set-same cuts (k - 1) (lost .count) 0 room ∙ cuts-found (g .tables) y now (g .reached) s (k - 1) (omega arith)))
+                (λ d. getD-set-other cuts (k - 1) u (lost .count) 0 d ∙ c .same u (omega arith));
+          })
+
       -- what is stated is wrong
-      pub part-stated : statedTest (x .n) (x .ev) k weight mark ≡ false → 15 ≡ partsFault (x .bs) (x .ev)
+      pub part-stated : statedTest (x .n) (x .ev) k (lost .weight) (lost .mark) ≡ false → 15 ≡ partsFault (x .bs) (x .ev)
       part-stated e = stopped (i .part) (λ z. absurd (omega arith)) (part-wrong (x .bs) (x .ev) (g .tables .many) k (most (i .part)) kept (sym stated ∙ e))
 
       -- the part has no fault
-      pub part-gone : statedTest (x .n) (x .ev) k weight mark ≡ true → Gone x before (k + 1)
+      pub part-gone : statedTest (x .n) (x .ev) k (lost .weight) (lost .mark) ≡ true → Gone x before (k + 1)
       part-gone e =
           let none = part-right (x .bs) (x .ev) (g .tables .many) k (most (i .part)) kept (sym stated ∙ e) in
           record {

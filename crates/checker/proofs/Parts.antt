@@ -20,6 +20,7 @@ use Rattle.network.specs.Tests.{weighed, servedWeight, candidates}
 use Rattle.network.specs.Rows.{SlotRowsOf}
 use Rattle.network.proofs.Weights.{weighed-block}
 use Rattle.weigh.proofs.Serving.{left-held}
+use Rattle.evidence.specs.declared.Stated.{Stated}
 use Rattle.evidence.specs.Layout.{forestAt}
 use Rattle.evidence.specs.Contents.{sectionIn, forestIn, firstForest, sectionForest}
 use Rattle.evidence.specs.Checks.{forestRight, sectionFault}
@@ -37,9 +38,9 @@ unfoldable pub heldAt : Picture → ℕ → ℕ → Bool
 heldAt p zero = isHeld p
 heldAt p (suc i) = heldWithout p (blockAt p i)
 
-unfoldable pub costAt : Picture → ℕ → Cost
-costAt p zero = record { block = 0; loss = servedWeight p; mark = 0 }
-costAt p (suc i) = weighed p (blockAt p i)
+unfoldable pub statedAt : Picture → ℕ → Stated
+statedAt p zero = record { block = 0; loss = servedWeight p; mark = 0 }
+statedAt p (suc i) = let w : Cost = weighed p (blockAt p i) in record { block = w .block; loss = w .loss; mark = w .mark }
 
 module _ (bs ev : List ℕ) {n : ℕ} (many : slotCount (pictureOf bs) ≡ n) where
   abbrev p : Picture
@@ -51,11 +52,11 @@ module _ (bs ev : List ℕ) {n : ℕ} (many : slotCount (pictureOf bs) ≡ n) wh
 
   -- whether it states what it is to state
   abbrev pub statedRight : ℕ → Bool
-  statedRight k = statedTest n ev k (costAt p k .loss) (costAt p k .mark)
+  statedRight k = statedTest n ev k (statedAt p k .loss) (statedAt p k .mark)
 
   pub part-fault : (k : ℕ) → k ≤ length (candidates p)
       → partFault bs ev k ≡ first (on (not (forestRight p (heldAt p k) (forestOf k))) 14 ∷ on (not (statedRight k)) 15 ∷ [])
-  unfolding partFault heldAt costAt statedTest sectionFault firstForest sectionForest
+  unfolding partFault heldAt statedAt statedTest sectionFault firstForest sectionForest
   part-fault zero l = rw many
   part-fault (suc i) l = rw (many, weighing-at p i l, weighed-block p (blockAt p i), eqb·suc-zero i, sub-one (suc i))
 
@@ -92,7 +93,7 @@ module _ (bs ev : List ℕ) {n : ℕ} (many : slotCount (pictureOf bs) ≡ n) wh
         let k = h .less (suc-le-suc zero-le) in
         left-held p (blockAt p i) _ _ (k .0) _ s (rw (sub-one (suc i), formed-block i l) at (k .1)) (k .2) v
 
-  pub stated-found : (k : ℕ) {w m : ℕ} → w ≡ costAt p k .loss → (1 ≤ k → m ≡ costAt p k .mark) → statedTest n ev k w m ≡ statedRight k
+  pub stated-found : (k : ℕ) {w m : ℕ} → w ≡ statedAt p k .loss → (1 ≤ k → m ≡ statedAt p k .mark) → statedTest n ev k w m ≡ statedRight k
   unfolding statedTest
   stated-found zero e f = rw e
   stated-found (suc i) e f = rw (e, f (suc-le-suc zero-le))

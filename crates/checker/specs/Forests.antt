@@ -2,18 +2,18 @@
 use mathlib.Core.Path.{_≡_}
 use mathlib.Core.Bool.{Bool, not, _&&_, cond}
 use mathlib.Core.List.{List, [], _∷_, map}
-use Prim.Native.Nat.{ℕ, zero, suc, _+_, _-_, _*_, _≤_}
+use Prim.Native.Nat.{ℕ, zero, suc, _+_, _-_, _*_, _≤_, _<_}
 use lib.Dec.{eqb}
-use lib.ListN.{length}
+use lib.ListN.{length, getD}
 use Rattle.lists.specs.Lists.{range, on, first, sum}
 use Rattle.rows.specs.Rows.{Minus}
 use Rattle.graph.specs.declared.Node.{Node}
-use Rattle.picture.specs.Layout.{edition1, editionOf}
+use Rattle.picture.specs.Layout.{edition1, editionOf, blocksMax}
 use Rattle.picture.specs.Picture.{Picture, pictureOf}
-use Rattle.network.specs.declared.Cost.{Cost}
 use Rattle.network.specs.Words.{slotCount, isHeld}
-use Rattle.network.specs.Tests.{servedWeight, candidates}
+use Rattle.network.specs.Tests.{servedWeight, weighed, candidates}
 use Rattle.network.specs.Rows.{BlockRow}
+use Rattle.evidence.specs.declared.Stated.{Stated}
 use Rattle.evidence.specs.Layout.{nodeWidths}
 use Rattle.evidence.specs.Canonical.{weighings}
 use Rattle.evidence.specs.Contents.{headIn, sectionIn, nodeAt, firstForest}
@@ -33,7 +33,7 @@ pub record LeftIn (row : List ℕ) (size b k : ℕ) (left : List ℕ) : Type 0 w
 -- the weight and the mark that part k states: the served weight, or the loss and the mark of a section
 unfoldable pub statedTest : ℕ → List ℕ → ℕ → ℕ → ℕ → Bool
 statedTest n ev k weight mark =
-    let w : Cost = sectionIn edition1 n ev (k - 1) in
+    let w : Stated = sectionIn edition1 n ev (k - 1) in
     cond (eqb k 0) (eqb (headIn ev .served) weight) (eqb (w .loss) weight && eqb (w .mark) mark)
 
 -- 14 and 15 of part k
@@ -42,6 +42,11 @@ partFault bs ev zero =
     let p : Picture = pictureOf bs in
     first (on (not (forestRight p (isHeld p) (firstForest (editionOf bs) (slotCount p) ev))) 14 ∷ on (not (eqb (headIn ev .served) (servedWeight p))) 15 ∷ [])
 partFault bs ev (suc i) = sectionFault (editionOf bs) (pictureOf bs) ev (weighings (pictureOf bs)) i
+
+-- for each candidate, at its place, how many endpoints it cuts
+pub record CutsOf (p : Picture) (cuts : List ℕ) : Type 0 where
+  pub many : length cuts ≡ blocksMax
+  pub same : (i : ℕ) → i < length (candidates p) → getD cuts i 0 ≡ weighed p (getD (candidates p) i 0) .cuts
 
 -- the first fault of the parts
 unfoldable pub partsFault : List ℕ → List ℕ → ℕ

@@ -2,14 +2,22 @@
 use mathlib.Core.List.{List, map}
 use Prim.Native.Nat.{ℕ}
 use lib.Dec.{eqb}
+use lib.ListN.{getD}
 use Rattle.lists.specs.Lists.{range, place}
 use Rattle.picture.specs.Layout.{edition1}
 use Rattle.network.specs.declared.Cost.{Cost}
+use Rattle.evidence.specs.declared.Stated.{Stated}
 use Rattle.evidence.specs.Contents.{sectionIn}
 
--- what the sections state, in their order
-unfoldable pub stated : ℕ → List ℕ → ℕ → List Cost
-stated n ev count = map (sectionIn edition1 n ev) (range 0 count)
+-- what section i states, with the number of endpoints that its block cuts
+unfoldable pub costIn : ℕ → List ℕ → List ℕ → ℕ → Cost
+costIn n ev cuts i =
+    let w : Stated = sectionIn edition1 n ev i in
+    record { block = w .block; loss = w .loss; cuts = getD cuts i 0; mark = w .mark }
+
+-- the same of all sections, in their order
+unfoldable pub stated : ℕ → List ℕ → List ℕ → ℕ → List Cost
+stated n ev cuts count = map (costIn n ev cuts) (range 0 count)
 
 -- the place of the first section of block b, or their number where none is
 unfoldable pub sectionNamed : ℕ → List ℕ → ℕ → ℕ → ℕ

@@ -6,17 +6,18 @@ ghost use Prim.Native.Nat.{ℕ, _+_, _-_, _*_, _^_, _≤_, _<_};
 ghost use lib.ListN.{length};
 ghost use Rattle.rows.specs.Rows.{linkedIn, locationsMax, slotsMax};
 ghost use Rattle.graph.specs.Held.{heldIn};
-ghost use Rattle.picture.specs.Layout.{edition1};
+ghost use Rattle.picture.specs.Layout.{edition1, blocksMax};
 ghost use Rattle.picture.specs.Picture.{pictureOf};
 ghost use Rattle.picture.specs.Inner.{Read};
 ghost use Rattle.network.specs.Tests.{candidates};
 ghost use Rattle.network.specs.Rows.{SlotRowsOf};
 ghost use Rattle.evidence.specs.Contents.{sectionIn, forestIn};
 ghost use Rattle.evidence.specs.Checks.{nodeRight, formRight};
-ghost use Rattle.checker.specs.Forests.{nodeFrom, LeftIn, statedTest, partsFault};
+ghost use Rattle.checker.specs.Forests.{nodeFrom, LeftIn, statedTest, partsFault, CutsOf};
 use evidence::NODE_BITS;
 use graph::Node;
 use network::ENDPOINTS;
+use picture::BLOCKS_MAX;
 use picture::Header;
 use picture::LOCATION_BITS;
 use picture::refusals::FOREST;
@@ -107,10 +108,20 @@ fn stated_right(ev: &[u8], n: usize, k: usize, lost: Lost) -> bool
 }
 
 // The first fault of the forests and of the weights that are stated of them, or 0: part by part, slot by slot, and the links of each
-// location in the forest. Part 0 is the first forest, and part i + 1 is section i.
-pub fn parts_fault(s: &[u8], h: Header, ev: &[u8], held: [u64; WORDS], count: usize) -> u8
+// location in the forest. Part 0 is the first forest, and part i + 1 is section i. Where there is none, `cuts` has for each section how many
+// endpoints its block cuts, by these forests.
+pub fn parts_fault(
+    s: &[u8],
+    h: Header,
+    ev: &[u8],
+    held: [u64; WORDS],
+    count: usize,
+    cuts: &mut [u8; BLOCKS_MAX],
+) -> u8
     requires { ⌜ Read (now s) h × ((near : List ℕ) × SlotRowsOf (pictureOf (now s)) held near) × (formRight edition1 (pictureOf (now s)) (now ev) ≡ true) × (count ≡ length (candidates (pictureOf (now s)))) ⌝ }
+    requires { ⌜ length (now cuts) ≡ blocksMax ⌝ }
     ensures { λ r. ⌜ r ≡ partsFault (now (s .entry)) (now (ev .entry)) ⌝ }
+    ensures { λ r. ⌜ (r ≡ 0 → CutsOf (pictureOf (now (s .entry))) (now (cuts .exit))) ⌝ }
 {
     let n = h.slots;
     let size = h.block_size;
@@ -171,6 +182,9 @@ pub fn parts_fault(s: &[u8], h: Header, ev: &[u8], held: [u64; WORDS], count: us
         if !right {
             fault = WEIGHT;
             break 'check;
+        }
+        if k != 0 {
+            cuts[k - 1] = lost.count;
         }
         k += 1;
     }

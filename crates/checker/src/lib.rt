@@ -14,6 +14,7 @@ mod verdict;
 
 use evidence::BYTE_BITS;
 use evidence::Part;
+use picture::BLOCKS_MAX;
 use picture::Header;
 use picture::Reading;
 use picture::refusals::FORM;
@@ -41,11 +42,12 @@ fn evidence_fault(s: &[u8], h: Header, ev: &[u8]) -> u8
     if !right {
         return FORM;
     }
-    let fault = forests::parts_fault(s, h, ev, held, count);
+    let mut cuts = [0u8; BLOCKS_MAX];
+    let fault = forests::parts_fault(s, h, ev, held, count, &mut cuts);
     if fault != 0 {
         return fault;
     }
-    if verdict::verdict_right(ev, n, count) {
+    if verdict::verdict_right(ev, n, count, &cuts) {
         return 0;
     }
     VERDICT

@@ -1,15 +1,52 @@
 // The verdict that the sections of evidence imply, and the section that it names.
 ghost use mathlib.Core.Path.{_≡_};
-ghost use Prim.Native.Nat.{_≤_};
+ghost use Prim.Native.Nat.{_≤_, _<_};
+ghost use lib.ListN.{length};
+ghost use Rattle.lists.specs.Lists.{any};
 ghost use Rattle.rows.specs.Rows.{slotsMax};
+ghost use Rattle.evidence.specs.Canonical.{least};
 ghost use Rattle.evidence.specs.Checks.{isNamed, verdictRight};
-ghost use Rattle.checker.specs.Verdict.{stated, sectionNamed};
+ghost use Rattle.checker.specs.Verdict.{costIn, stated, sectionNamed};
 use evidence::Choice;
 use network::Cost;
 
-// Whether a section is of the block that the head names, admissible, and of the loss that the head states.
-fn is_named(w: Cost, block: usize, loss: usize) -> bool
-    ensures { λ r. ⌜ r ≡ isNamed block loss w ⌝ }
+// What section i states, with the number of endpoints that its block cuts.
+fn cost_at(ev: &[u8], n: usize, cuts: &[u8], i: usize) -> Cost
+    requires { ⌜ (n ≤ slotsMax) × (i ≤ 255) × (i < length (now cuts)) ⌝ }
+    ensures { λ r. ⌜ r ≡ costIn n (now (ev .entry)) (now (cuts .entry)) i ⌝ }
+{
+    let w = evidence::section_of(ev, n, i);
+    let number = cuts[i] as usize;
+    Cost {
+        block: w.block,
+        loss: w.loss,
+        cuts: number,
+        mark: w.mark,
+    }
+}
+
+// The choice that the sections imply: they are gone over in the order of choice.
+fn implied(ev: &[u8], n: usize, count: usize, cuts: &[u8]) -> Choice
+    requires { ⌜ (n ≤ slotsMax) × (count ≤ 255) × (count ≤ length (now cuts)) ⌝ }
+    ensures { λ r. ⌜ r ≡ least (stated n (now (ev .entry)) (now (cuts .entry)) count) ⌝ }
+{
+    let mut best = Choice {
+        verdict: 0,
+        block: 0,
+        loss: 0,
+        cuts: 0,
+    };
+    let mut i: usize = 0;
+    while i < count {
+        best = evidence::better(best, cost_at(ev, n, cuts, i));
+        i += 1;
+    }
+    best
+}
+
+// Whether a section is of this block, admissible, and loses and cuts as much as the choice.
+fn is_named(w: Cost, block: usize, c: Choice) -> bool
+    ensures { λ r. ⌜ r ≡ isNamed block c w ⌝ }
 {
     if w.block != block {
         return false;
@@ -17,31 +54,34 @@ fn is_named(w: Cost, block: usize, loss: usize) -> bool
     if w.mark != 0 {
         return false;
     }
-    w.loss == loss
+    if w.loss != c.loss {
+        return false;
+    }
+    w.cuts == c.cuts
 }
 
-// Whether the verdict, its block and its loss are as the sections imply: what the sections state is gone over in the order of choice, and one
-// of them must be the head's.
-pub fn verdict_right(ev: &[u8], n: usize, count: usize) -> bool
-    requires { ⌜ (n ≤ slotsMax) × (count ≤ 255) ⌝ }
-    ensures { λ r. ⌜ r ≡ verdictRight (now (ev .entry)) (stated n (now (ev .entry)) count) ⌝ }
+// Whether some section is.
+fn any_named(ev: &[u8], n: usize, count: usize, cuts: &[u8], block: usize, c: Choice) -> bool
+    requires { ⌜ (n ≤ slotsMax) × (count ≤ 255) × (count ≤ length (now cuts)) ⌝ }
+    ensures { λ r. ⌜ r ≡ any (isNamed block c) (stated n (now (ev .entry)) (now (cuts .entry)) count) ⌝ }
 {
-    let head = evidence::head_of(ev);
-    let mut best = Choice {
-        verdict: 0,
-        block: 0,
-        loss: 0,
-    };
-    let mut named = false;
     let mut i: usize = 0;
     while i < count {
-        let w = evidence::section_of(ev, n, i);
-        best = evidence::better(best, w);
-        if is_named(w, head.block, head.loss) {
-            named = true;
+        if is_named(cost_at(ev, n, cuts, i), block, c) {
+            return true;
         }
         i += 1;
     }
+    false
+}
+
+// Whether the verdict, its block and its loss are as the sections imply; `cuts` has how many endpoints the block of each section cuts.
+pub fn verdict_right(ev: &[u8], n: usize, count: usize, cuts: &[u8]) -> bool
+    requires { ⌜ (n ≤ slotsMax) × (count ≤ 255) × (count ≤ length (now cuts)) ⌝ }
+    ensures { λ r. ⌜ r ≡ verdictRight (now (ev .entry)) (stated n (now (ev .entry)) (now (cuts .entry)) count) ⌝ }
+{
+    let head = evidence::head_of(ev);
+    let best = implied(ev, n, count, cuts);
     if head.verdict != best.verdict {
         return false;
     }
@@ -51,7 +91,7 @@ pub fn verdict_right(ev: &[u8], n: usize, count: usize) -> bool
     if best.verdict == 0 {
         return head.block == 0;
     }
-    named
+    any_named(ev, n, count, cuts, head.block, best)
 }
 
 // The place of the first section that is of block b, or their number where none is.

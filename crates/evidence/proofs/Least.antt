@@ -3,15 +3,13 @@ use mathlib.Core.Path.{_≡_, refl, sym, subst}
 use mathlib.Core.Bool.{Bool, true, false, _&&_, _||_, cond}
 use mathlib.Core.Logic.{_⊎_, inl, inr, _≢_, ⊎-elim, by-cases}
 use mathlib.Core.List.{List, [], _∷_, _++_}
-use Prim.Native.Nat.{ℕ, zero, suc, _+_, _≤_, _<_, zero-le, suc-le-suc}
+use Prim.Native.Nat.{ℕ, zero, suc, _≤_, _<_, zero-le, suc-le-suc}
 use native.Mathlib.Omega.{arith}
 use native.Mathlib.Decide.{ℕ-discrete}
 use native.Mathlib.Nat.{not-suc-le-zero, le-of-suc-le-suc}
-use native.Mathlib.Numerals.{add-one}
 use borrow.Author.Tests.{eq-eqb, ne-eqb}
 use lib.Dec.{T, eqb, ltb, eqb→eq, ltb→lt, nltb→le}
-use lib.ListN.{length, getD, take}
-use lib.Seq.{take-suc}
+use lib.ListN.{length, getD}
 use Rattle.lists.proofs.Tests.{and-T, T-and, or-T, T-or-l, T-or-r, eq-T, either}
 use Rattle.network.specs.declared.Cost.{Cost}
 use Rattle.evidence.specs.declared.Choice.{Choice}
@@ -102,14 +100,6 @@ bettering-more c (x ∷ ws) w = bettering-more (bettered c x) ws w
 pub least-last : (ws : List Cost) (w : Cost) → least (ws ++ (w ∷ [])) ≡ bettered (least ws) w
 unfolding least
 least-last = bettering-more noChoice
-
--- the choice of the first costs of a list, one by one
-pub least-none-yet : (ws : List Cost) → least (take 0 ws) ≡ noChoice
-unfolding least bettering
-least-none-yet ws = refl
-
-pub least-more : (ws : List Cost) (i : ℕ) → i < length ws → least (take (i + 1) ws) ≡ bettered (least (take i ws)) (getD ws i noCost)
-least-more ws i h = rw (add-one, take-suc ws i noCost h) (least-last (take i ws) (getD ws i noCost))
 
 -- ---- all costs of a list, after an earlier choice
 

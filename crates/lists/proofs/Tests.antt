@@ -2,7 +2,7 @@
 use mathlib.Core.Path.{_≡_, refl, sym, ap, ap₂, _∙_, subst}
 use mathlib.Core.Bool.{Bool, true, false, not, xor, _&&_, _||_, or-assoc}
 use mathlib.Core.Logic.{_⊎_, inl, inr, by-cases}
-use mathlib.Core.List.{List, [], _∷_, _++_}
+use mathlib.Core.List.{List, [], _∷_, _++_, map}
 use Prim.Native.Nat.{ℕ, zero, suc, _<_, zero-le, suc-le-suc}
 use native.Mathlib.Decide.{ℕ-discrete}
 use native.Mathlib.Nat.{le-of-suc-le-suc, not-suc-le-zero}
@@ -114,6 +114,12 @@ unfolding any
 at-any d f [] i h t = absurd (not-suc-le-zero h)
 at-any d f (x ∷ l) zero h t = T-or-l (f x) (any f l) t
 at-any d f (x ∷ l) (suc i) h t = T-or-r (f x) (any f l) (at-any d f l i (le-of-suc-le-suc h) t)
+
+-- a test of any element that is made of another list's
+pub any-map : {A B : Type 0} (f : B → Bool) (g : A → B) (l : List A) → any f (map g l) ≡ any (λ x. f (g x)) l
+unfolding any
+any-map f g [] = refl
+any-map f g (x ∷ l) = ap (λ (b : Bool). f (g x) || b) (any-map f g l)
 
 -- a test of any element of two lists
 pub any-append : {A : Type 0} (f : A → Bool) (xs ys : List A) → any f (xs ++ ys) ≡ (any f xs || any f ys)

@@ -1,5 +1,5 @@
 -- `evidence_fault` judges the form, the parts and the verdict, in this order. Assumes nothing.
-use mathlib.Core.Path.{_≡_, sym, ap, _∙_}
+use mathlib.Core.Path.{_≡_, refl, sym, ap, _∙_}
 use mathlib.Core.Bool.{true}
 use mathlib.Core.List.{List}
 use Prim.Native.Nat.{ℕ}
@@ -16,7 +16,7 @@ use Rattle.network.proofs.Blocks.{read-slots, read-block-size, read-blocks}
 use Rattle.evidence.specs.Canonical.{weighings}
 use Rattle.evidence.specs.Checks.{formRight, verdictRight}
 use Rattle.evidence.proofs.Fields.{candidates-few}
-use Rattle.checker.specs.Forests.{partsFault}
+use Rattle.checker.specs.Forests.{partsFault, CutsOf}
 use Rattle.checker.proofs.Answering.{check-form, check-part, check-verdict, check-none, stated-weighings}
 use Rattle.checker.proofs.Forms.{form-found}
 use borrow.Author.Needs.{needs}
@@ -30,8 +30,11 @@ looked c = c .before .before
 abbrev start : tie.After-form-of → tie.Start
 start c = looked (c .before) .before .before .before
 
+abbrev formedAt : tie.Else2 → tie.Else1
+formedAt c = c .before .before .before
+
 abbrev right : tie.After-verdict-right → tie.Else1
-right c = c .before .before .before
+right c = formedAt (c .before .before)
 
 -- the picture and the evidence
 abbrev shown : tie.After-form-of → Picture
@@ -53,16 +56,21 @@ formed : (c : tie.Else1) → formRight edition1 (shown (c .before)) (evidence (c
 formed c = sym (found (c .before) .0) ∙ not-false _ (c .if1 .left)
 
 -- no part has a fault, so the sections state what the candidates weigh
-clean : (c : tie.Else2) → let f = c .before .before .before in 0 ≡ partsFault (start f .args .s .now) (evidence f)
-clean c = sym (c .if2 .left) ∙ c .before .parts-fault .ensures
+clean : (c : tie.Else2) → let f = formedAt c .before in 0 ≡ partsFault (start f .args .s .now) (evidence f)
+clean c = sym (c .if2 .left) ∙ c .before .parts-fault .ensures .0
+
+-- no part has a fault, so the numbers of endpoints cut are there
+counted : (c : tie.Else2) → let f = formedAt c .before in CutsOf (shown f) (c .before .parts-fault .last .1 .1 .1 .1 .1 .0)
+counted c = c .before .parts-fault .ensures .1 (c .if2 .left)
 
 judged : (c : tie.After-verdict-right) → let f = right c .before in
     c .verdict-right .result ≡ verdictRight (evidence f) (weighings (shown f))
 judged c =
     let e = right c in
+    let p = c .before .before in
     let r = start (e .before) .pre in
     c .verdict-right .ensures
-    ∙ ap (verdictRight (evidence (e .before))) (stated-weighings _ _ (r .accepted) (formed e) (clean (c .before)) (read-slots _ _ r) (found (e .before) .1))
+    ∙ ap (verdictRight (evidence (e .before))) (stated-weighings _ _ (r .accepted) (formed e) (clean p) (read-slots _ _ r) (found (e .before) .1) (counted p))
 
 slot-rows-requires : tie.Need-slot-rows-requires
 slot-rows-requires c κs = search needs
@@ -77,22 +85,30 @@ returns : tie.Need-returns
 returns c = check-form _ _ (start (c .before) .pre .accepted) (sym (found (c .before) .0) ∙ not-true _ (c .if1 .taken))
 
 parts-fault-requires : tie.Need-parts-fault-requires
-parts-fault-requires c κs = (start (c .before) .pre, (_, looked (c .before .before) .slot-rows .ensures), formed c, found (c .before) .1)
+parts-fault-requires c κs =
+    let e = c .before in
+    ((start (e .before) .pre, (_, looked (e .before .before) .slot-rows .ensures), formed e, found (e .before) .1), refl)
 
 returns-2 : tie.Need-returns-2
-returns-2 c = let e = c .before .before in check-part _ _ (start (e .before) .pre .accepted) (formed e) (c .if2 .taken) (c .before .parts-fault .ensures)
+returns-2 c =
+    let e = c .before .before .before in
+    check-part _ _ (start (e .before) .pre .accepted) (formed e) (c .if2 .taken) (c .before .parts-fault .ensures .0)
+
+slice-aggregate-verdict-right : tie.Need-slice-aggregate-verdict-right
+slice-aggregate-verdict-right c = sym (counted (c .before) .many)
 
 verdict-right-requires : tie.Need-verdict-right-requires
 verdict-right-requires c κs =
-    let f = c .before .before .before in
+    let f = formedAt (c .before) .before in
     let r = start f .pre in
-    (read-sizes _ _ r .slots-most, omega (arith, found f .1, candidates-few _ (r .accepted)))
+    let few = candidates-few _ (r .accepted) in
+    (read-sizes _ _ r .slots-most, omega (arith, found f .1, few), omega (arith, found f .1, few, counted (c .before) .many))
 
 returns-3 : tie.Need-returns-3
-returns-3 c = let v = c .before in check-none _ _ (start (right v .before) .pre .accepted) (formed (right v)) (clean (v .before)) (sym (judged v) ∙ c .if3 .taken)
+returns-3 c = let v = c .before in check-none _ _ (start (right v .before) .pre .accepted) (formed (right v)) (clean (v .before .before)) (sym (judged v) ∙ c .if3 .taken)
 
 returns-4 : tie.Need-returns-4
-returns-4 c = let v = c .before in check-verdict _ _ (start (right v .before) .pre .accepted) (formed (right v)) (clean (v .before)) (sym (judged v) ∙ c .if3 .left)
+returns-4 c = let v = c .before in check-verdict _ _ (start (right v .before) .pre .accepted) (formed (right v)) (clean (v .before .before)) (sym (judged v) ∙ c .if3 .left)
 
 pub evidence-fault-spec : {M : Type 1} → statement M
 evidence-fault-spec =
@@ -104,6 +120,7 @@ evidence-fault-spec =
     returns
     parts-fault-requires
     returns-2
+    slice-aggregate-verdict-right
     verdict-right-requires
     returns-3
     returns-4)

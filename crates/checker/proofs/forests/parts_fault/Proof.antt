@@ -1,6 +1,6 @@
 -- `parts_fault` goes over the parts of evidence up to the first fault. Assumes nothing.
 use mathlib.Core.Path.{_≡_, refl, sym, ap, _∙_}
-use mathlib.Core.Logic.{⊎-elim}
+use mathlib.Core.Logic.{inl, inr, ⊎-elim}
 use mathlib.Core.List.{List}
 use Prim.Native.Nat.{ℕ, suc, _+_, _-_, _≤_}
 use native.Mathlib.Omega.{arith}
@@ -12,8 +12,8 @@ use Rattle.network.proofs.Making.{clear-made}
 use Rattle.evidence.specs.Contents.{forestIn}
 use Rattle.checker.proofs.Nodes.{node-read}
 use Rattle.checker.proofs.Following.{Followed, followed-begun, followed-in, followed-out, Closed, closed-begun, closed-none, closed-out, closed-apart}
-use Rattle.checker.proofs.Going.{Given, given, Gone, PartAt, Inside, Sides, sides-whole, sides-less, tables-made, gone-begun, gone-ended}
-use Rattle.checker.proofs.Going.{part-begun, part-node, part-link, part-stated, part-gone}
+use Rattle.checker.proofs.Going.{Given, given, Gone, Counted, PartAt, Inside, Sides, sides-whole, sides-less, tables-made, gone-begun, gone-ended, counted-ended}
+use Rattle.checker.proofs.Going.{part-begun, part-node, part-link, part-counted, part-stated, part-gone}
 use borrow.Author.Needs.{needs}
 use Rattle.checker.proofs.forests.parts_fault.Statement.{statement}
 use Rattle.checker.proofs.forests.parts_fault.Tie as tie
@@ -32,32 +32,33 @@ record Links (x : Given) (row : List ℕ) (k : ℕ) (inner outer : List ℕ) (fa
   pub closed : Closed (x .links) inner outer a
 
 -- the parts before k are gone over, without a fault
-record Parts (x : Given) (row : List ℕ) (fault k : ℕ) : Type 0 where
+record Parts (x : Given) (cuts row : List ℕ) (fault k : ℕ) : Type 0 where
   pub none : fault ≡ 0
   pub gone : Gone x row k
+  pub counted : Counted x cuts k
 
 abbrev Inv-loop : tie.InvT-loop
-Inv-loop s ev held count n size d links services weights protected none now fault₀ k q left slots₀ v₀ fault slots v =
+Inv-loop s ev held count cuts n size d links services weights protected none now fault₀ k q left slots₀ v₀ fault slots v =
     Slots (given s ev held count n size d links services weights protected) now k q left fault slots v
 
 abbrev μ-loop : tie.MeasureT-loop
-μ-loop s ev held count n size d links services weights protected none now fault₀ k q left slots₀ v₀ fault slots v = n + 1 - v
+μ-loop s ev held count cuts n size d links services weights protected none now fault₀ k q left slots₀ v₀ fault slots v = n + 1 - v
 
 abbrev Inv-loop2 : tie.InvT-loop2
-Inv-loop2 s ev held count n size d links services weights protected none now fault₀ k q v inside outside a₀ fault a =
+Inv-loop2 s ev held count cuts n size d links services weights protected none now fault₀ k q v inside outside a₀ fault a =
     Links (given s ev held count n size d links services weights protected) now k inside outside fault a
 
 abbrev μ-loop2 : tie.MeasureT-loop2
-μ-loop2 s ev held count n size d links services weights protected none now fault₀ k q v inside outside a₀ fault a = n + 1 - a
+μ-loop2 s ev held count cuts n size d links services weights protected none now fault₀ k q v inside outside a₀ fault a = n + 1 - a
 
 abbrev Inv-check : tie.InvT-check
-Inv-check s ev held count n size d links services weights protected none now₀ fault₀ k₀ now fault k =
-    Parts (given s ev held count n size d links services weights protected) now fault k
+Inv-check s ev held count cuts₀ n size d links services weights protected none now₀ fault₀ k₀ cuts now fault k =
+    Parts (given s ev held count n size d links services weights protected) cuts now fault k
 
 abbrev μ-check : tie.MeasureT-check
-μ-check s ev held count n size d links services weights protected none now₀ fault₀ k₀ now fault k = count + 1 - k
+μ-check s ev held count cuts₀ n size d links services weights protected none now₀ fault₀ k₀ cuts now fault k = count + 1 - k
 
--- the places of the code: a node is read, a turn of the links, the part's locations are gathered, its two sides are set
+-- the places of the code: a node is read, a turn of the links, the part's locations are gathered, the part begins, its two sides are set
 abbrev start : tie.After-links Inv-loop μ-loop Inv-loop2 μ-loop2 Inv-check μ-check → tie.Start Inv-loop μ-loop Inv-loop2 μ-loop2 Inv-check μ-check
 start c = c .before .before .before
 
@@ -70,14 +71,17 @@ turn c = c .before .before .before
 abbrev gathered : tie.Joined6 Inv-loop μ-loop Inv-loop2 μ-loop2 Inv-check μ-check → tie.After-add2 Inv-loop μ-loop Inv-loop2 μ-loop2 Inv-check μ-check
 gathered c = c .before .before .before .before .before .before
 
+abbrev begun : tie.Joined6 Inv-loop μ-loop Inv-loop2 μ-loop2 Inv-check μ-check → tie.At-check Inv-loop μ-loop Inv-loop2 μ-loop2 Inv-check μ-check
+begun c = gathered c .before .before .before .before .before .before .before
+
 abbrev sided : tie.After-lost-between Inv-loop μ-loop Inv-loop2 μ-loop2 Inv-check μ-check → tie.Joined6 Inv-loop μ-loop Inv-loop2 μ-loop2 Inv-check μ-check
 sided c = c .before .before .before
 
 link-rows-requires : tie.Need-link-rows-requires Inv-loop μ-loop Inv-loop2 μ-loop2 Inv-check μ-check
-link-rows-requires c κs = (start c .pre .0, clear-made locationsMax)
+link-rows-requires c κs = (start c .pre .0 .0, clear-made locationsMax)
 
 service-link-rows-requires : tie.Need-service-link-rows-requires Inv-loop μ-loop Inv-loop2 μ-loop2 Inv-check μ-check
-service-link-rows-requires c κs = (start (c .before .before) .pre .0, clear-made (suc endpointsMax))
+service-link-rows-requires c κs = (start (c .before .before) .pre .0 .0, clear-made (suc endpointsMax))
 
 endpoint-rows-requires : tie.Need-endpoint-rows-requires Inv-loop μ-loop Inv-loop2 μ-loop2 Inv-check μ-check
 endpoint-rows-requires c κs = search needs
@@ -86,9 +90,10 @@ check-holds : tie.Need-check-holds Inv-loop μ-loop Inv-loop2 μ-loop2 Inv-check
 check-holds c =
     let s = c .before .before in
     let l = s .before .before in
-    let p = start (l .before) .pre in
+    let given = start (l .before) .pre in
+    let p = given .0 in
     let t = tables-made (p .0) (p .1) (p .2) (p .3) (l .link-rows .ensures) (s .service-link-rows .ensures) (c .endpoint-rows .ensures) in
-    record { none = refl; gone = gone-begun t }
+    record { none = refl; gone = gone-begun t; counted = record { many = given .1; same = λ i h. absurd (omega arith) } }
 
 forest-at-requires : tie.Need-forest-at-requires Inv-loop μ-loop Inv-loop2 μ-loop2 Inv-check μ-check
 forest-at-requires c κs = search needs
@@ -202,7 +207,7 @@ loop2-again c =
 
 -- part 0 is weighed against nothing, and each section against the first forest
 sides : (c : tie.Joined6 Inv-loop μ-loop Inv-loop2 μ-loop2 Inv-check μ-check) → let g = gathered c in
-    let k = g .before .before .before .before .before .before .before .check in Sides (k .now) (g .add2 .last .0) (k .k) (c .if6 .now) (c .if6 .still)
+    let k = begun c .check in Sides (k .now) (g .add2 .last .0) (k .k) (c .if6 .now) (c .if6 .still)
 sides c = ⊎-elim (λ w. sides-whole _ (w .0 .taken) (w .1) (w .2)) (λ w. sides-less _ (w .0 .left) (w .1) (w .2)) (c .if6 .came)
 
 lost-between-requires : tie.Need-lost-between-requires Inv-loop μ-loop Inv-loop2 μ-loop2 Inv-check μ-check
@@ -210,6 +215,12 @@ lost-between-requires c κs = search needs
 
 stated-right-requires : tie.Need-stated-right-requires Inv-loop μ-loop Inv-loop2 μ-loop2 Inv-check μ-check
 stated-right-requires c κs = search needs
+
+sub-cuts : tie.Need-sub-cuts Inv-loop μ-loop Inv-loop2 μ-loop2 Inv-check μ-check
+sub-cuts c = let z = c .if8 .taken in omega arith
+
+element-write-cuts : tie.Need-element-write-cuts Inv-loop μ-loop Inv-loop2 μ-loop2 Inv-check μ-check
+element-write-cuts c = search needs
 
 add-k : tie.Need-add-k Inv-loop μ-loop Inv-loop2 μ-loop2 Inv-check μ-check
 add-k c = search needs
@@ -219,36 +230,40 @@ check-less c = search needs
 
 check-again : tie.Need-check-again Inv-loop μ-loop Inv-loop2 μ-loop2 Inv-check μ-check
 check-again c =
-    let s = sided (c .before .before) in
+    let r = c .before in
+    let s = sided (r .before .before) in
     let i = s .before .before .loop2 .inv in
+    let lost = r .before .before .lost-between .ensures in
     record {
       none = i .none;
-      gone =
-          part-gone (i .inside) (i .closed) (s .before .loop2-test .left) (sides s) (c .before .before .lost-between .ensures)
-          (sym (c .before .stated-right .ensures) ∙ not-false _ (c .if7 .left));
+      gone = part-gone (i .inside) (i .closed) (s .before .loop2-test .left) (sides s) lost (sym (r .before .stated-right .ensures) ∙ not-false _ (r .if7 .left));
+      counted = part-counted (i .inside) (i .closed) (s .before .loop2-test .left) (sides s) lost (begun s .check .inv .counted)
+          (⊎-elim (λ w. inr (w .0 .taken, w .1)) (λ w. inl (w .0 .left, w .1)) (c .if8 .came));
     }
 
 returns : tie.Need-returns Inv-loop μ-loop Inv-loop2 μ-loop2 Inv-check μ-check
-returns c = c .before .check .inv .none ∙ gone-ended (c .before .check .inv .gone) (c .check-test .left)
+returns c =
+    let i = c .before .check .inv in
+    (i .none ∙ gone-ended (i .gone) (c .check-test .left), λ _. counted-ended (i .counted) (i .gone .tables) (c .check-test .left))
 
 returns-2 : tie.Need-returns-2 Inv-loop μ-loop Inv-loop2 μ-loop2 Inv-check μ-check
 returns-2 c =
     let l = read (c .before) .before in
     let i = l .before .loop .inv in
-    part-node (i .part) (i .some) (l .loop-test .taken) (sym (c .before .node-right .ensures) ∙ not-true _ (c .if1 .taken))
+    (part-node (i .part) (i .some) (l .loop-test .taken) (sym (c .before .node-right .ensures) ∙ not-true _ (c .if1 .taken)), λ z. absurd (omega arith))
 
 returns-3 : tie.Need-returns-3 Inv-loop μ-loop Inv-loop2 μ-loop2 Inv-check μ-check
 returns-3 c =
     let k = c .before .before .before .before in
     let l = turn (k .before) .loop2 in
-    part-link (l .inv .inside) (l .a) (rw (sym (k .before .has .ensures) ∙ k .if4 .taken) tt) (rw (c .if5 .taken) at (c .before .meet .ensures))
+    (part-link (l .inv .inside) (l .a) (rw (sym (k .before .has .ensures) ∙ k .if4 .taken) tt) (rw (c .if5 .taken) at (c .before .meet .ensures)), λ z. absurd (omega arith))
 
 returns-4 : tie.Need-returns-4 Inv-loop μ-loop Inv-loop2 μ-loop2 Inv-check μ-check
 returns-4 c =
     let s = sided (c .before .before) in
     let i = s .before .before .loop2 .inv in
-    part-stated (i .inside) (i .closed) (s .before .loop2-test .left) (sides s) (c .before .before .lost-between .ensures)
-    (sym (c .before .stated-right .ensures) ∙ not-true _ (c .if7 .taken))
+    let wrong = sym (c .before .stated-right .ensures) ∙ not-true _ (c .if7 .taken) in
+    (part-stated (i .inside) (i .closed) (s .before .loop2-test .left) (sides s) (c .before .before .lost-between .ensures) wrong, λ z. absurd (omega arith))
 
 pub parts-fault-spec : {M : Type 1} → statement M
 parts-fault-spec =
@@ -287,6 +302,8 @@ parts-fault-spec =
     loop2-again
     lost-between-requires
     stated-right-requires
+    sub-cuts
+    element-write-cuts
     add-k
     check-less
     check-again
