@@ -19,9 +19,10 @@ use Rattle.network.specs.Tests.{weighed}
 use Rattle.network.specs.Rows.{SlotRowsOf, BlockRow}
 use Rattle.network.proofs.Named.{accepted-named}
 use Rattle.network.proofs.Weights.{mark-le, weighed-block}
+use Rattle.weigh.specs.declared.Lost.{Lost}
 use Rattle.weigh.specs.Sums.{LostBetween}
 use Rattle.network.proofs.Blocks.{read-block-size, read-endpoints}
-use Rattle.weigh.proofs.Serving.{walked-over, left-slots, left-held, walk-meets, loss-met, mark-met}
+use Rattle.weigh.proofs.Serving.{walked-over, left-slots, left-held, walk-meets, loss-met, cuts-met, mark-met}
 use Rattle.evidence.specs.Canonical.{sectionFields}
 use Rattle.evidence.proofs.Fields.{blocks-small, loss-small}
 use Rattle.choose.specs.Writing.{arraySection, SectionFits}
@@ -58,10 +59,10 @@ module _ {bs : List ℕ} {h : Header} {links services : List (List ℕ)} {weight
       })
 
   -- with the walk over what is left, and the sums of what is lost
-  module _ {b loss mark : ℕ} {left still ps ds : List ℕ} (l : Left (pictureOf bs) b left) (w : Walked (linkedIn links) (heldIn left) (marked still) ps ds)
-      (s : LostBetween services weights guarded (h .endpoints) reached still loss mark) where
+  module _ {b : ℕ} {gone : Lost} {left still ps ds : List ℕ} (l : Left (pictureOf bs) b left) (w : Walked (linkedIn links) (heldIn left) (marked still) ps ds)
+      (s : LostBetween services weights guarded (h .endpoints) reached still gone) where
     abbrev cost : Cost
-    cost = record { block = b; loss = loss; mark = mark }
+    cost = record { block = b; loss = gone .weight; cuts = gone .count; mark = gone .mark }
 
     left-walked : Walked (joins (p .links)) (heldWithout p b) (marked still) ps ds
     left-walked = walked-over p _ links left _ ps ds (r .links) (l .held) w
@@ -73,8 +74,9 @@ module _ {bs : List ℕ} {h : Header} {links services : List (List ℕ)} {weight
         let now = walk-meets named (r .services) (r .now) in
         let left = walk-meets named (r .services) left-walked in
         let lost = loss-met (r .ends) count now b left s in
+        let many = cuts-met (r .ends) count now b left s in
         let told = mark-met (r .ends) count now b left s in
-        λ i. record { block = sym (weighed-block p b) i; loss = lost i; mark = told i }
+        λ i. record { block = sym (weighed-block p b) i; loss = lost i; cuts = many i; mark = told i }
 
     section-same : arraySection cost ps ds (h .slots) ≡ sectionFields edition1 p (weighed p b)
     unfolding arraySection sectionFields

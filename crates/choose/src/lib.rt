@@ -149,6 +149,7 @@ fn add_section(
     let w = Cost {
         block: b,
         loss: lost.weight as usize,
+        cuts: lost.count as usize,
         mark: lost.mark as usize,
     };
     put_section(buf, at, n, w, &parent, &depth);
@@ -181,6 +182,7 @@ fn put_sections(
         verdict: 0,
         block: 0,
         loss: 0,
+        cuts: 0,
     };
     let mut q = at;
     let mut b: usize = 0;

@@ -9,7 +9,7 @@ use Rattle.lists.proofs.Answers.{outcome-zero}
 use Rattle.lists.proofs.Sums.{total-one}
 use Rattle.picture.specs.Picture.{Picture, pictureOf}
 use Rattle.picture.specs.Faults.{pictureFault}
-use Rattle.network.specs.Words.{isHeld, Loss, Candidate, Admissible}
+use Rattle.network.specs.Words.{isHeld, Loss, CutCount, Candidate, Admissible}
 use Rattle.network.specs.Tests.{servedWeight}
 use Rattle.network.proofs.Candidates.{candidate-below}
 use Rattle.network.proofs.Named.{accepted-named}
@@ -23,7 +23,7 @@ use Rattle.evidence.proofs.Held.{evidence-reads}
 use Rattle.evidence.proofs.Lengths.{choose-takes, chosen-evidence}
 use Rattle.evidence.proofs.Passing.{check-passes, passes-check}
 use Rattle.evidence.proofs.Canonical.{own-passes}
-use Rattle.evidence.proofs.Unique.{verdict-named, same-verdict}
+use Rattle.evidence.proofs.Unique.{verdict-named, same-verdict, same-cuts}
 use Rattle.choose.proofs.Answering.{choosing-numbers}
 use Rattle.checker.specs.declared.Checking.the-variants.{Passed, Refused as Unpassed}
 use Rattle.checker.specs.Answers.{checkingOf, checking, checkingNumbers}
@@ -77,12 +77,13 @@ all-none (none k) _ = refl
 -- ---- what is named
 
 module _ (bs : List ℕ) (ok : pictureFault bs ≡ 0) where
-  -- it is the lowest of those that lose as much
-  lowest-named : verdictIn (evidenceOf bs) ≢ 0 → (b : ℕ) → Candidate (pictureOf bs) b → Admissible (pictureOf bs) b → Loss (pictureOf bs) b (lossIn (evidenceOf bs)) → blockIn (evidenceOf bs) ≤ b
+  -- it is the lowest of those that lose as much and cut as many
+  lowest-named : verdictIn (evidenceOf bs) ≢ 0 → {k : ℕ} → CutCount (pictureOf bs) (blockIn (evidenceOf bs)) k → (b : ℕ) → Candidate (pictureOf bs) b
+      → Admissible (pictureOf bs) b → Loss (pictureOf bs) b (lossIn (evidenceOf bs)) → CutCount (pictureOf bs) b k → blockIn (evidenceOf bs) ≤ b
   unfolding choice
-  lowest-named v b c a l =
+  lowest-named v u b c a l t =
       let r = evidence-reads bs ok in
-      rw (r .block) (choice-lowest (accepted-named bs ok) (candidate-below bs ok) (λ z. v (r .verdict ∙ z)) b c a (rw (r .loss) at l))
+      rw (r .block) (choice-lowest (accepted-named bs ok) (candidate-below bs ok) (λ z. v (r .verdict ∙ z)) (rw (r .block) at u) b c a (rw (r .loss) at l) t)
 
   module _ {b l : ℕ} (n : LeastAdmissible (pictureOf bs) b l) where
     evicts-named : actFault Evict bs b ≡ 0
@@ -130,7 +131,10 @@ fixed-proves bs ok =
             admissible = n .admissible;
             loss = n .stated;
             least = n .least;
-            lowest = lowest-named bs ok m;
+            cuts = n .cuts;
+            counted = n .counted;
+            fewest = n .fewest;
+            lowest = lowest-named bs ok m (n .counted);
             evicts = evicts bs _ (evicts-named bs ok n);
             accepted = accepted-after bs ok n;
             lowers = lowers-named bs ok n;
@@ -139,6 +143,7 @@ fixed-proves bs ok =
       passes = checks bs ev (passes-check bs ev passing);
       verdicts = λ other z. same-verdict (check-passes bs other (checked bs other z)) passing .0;
       losses = λ other z. same-verdict (check-passes bs other (checked bs other z)) passing .1;
+      numbers = λ other z k l. same-cuts (check-passes bs other (checked bs other z)) passing;
     }
 
 pub third-demand : ThirdDemand

@@ -7,7 +7,7 @@ use Prim.Native.Nat.{ℕ, _+_, _≤_}
 use lib.ListN.{length, take}
 use Rattle.picture.specs.Picture.{Picture, pictureOf}
 use Rattle.picture.specs.Faults.{pictureFault}
-use Rattle.network.specs.Words.{isHeld, ServedWeight, Loss, CutsProtected, Candidate, Admissible}
+use Rattle.network.specs.Words.{isHeld, ServedWeight, Loss, CutCount, CutsProtected, Candidate, Admissible}
 use Rattle.evidence.specs.Canonical.{evidenceOf}
 use Rattle.evidence.specs.Contents.{headIn}
 use Rattle.evidence.specs.Calls.{lengthFor, chosenBytes}
@@ -75,8 +75,14 @@ pub record Names (bs ev : List ℕ) : Type 0 where
   pub loss : Loss (pictureOf bs) (blockIn ev) (lossIn ev)
   -- "and every other candidate that cuts none loses at least as much weight"
   pub least : (b : ℕ) → Candidate (pictureOf bs) b → Admissible (pictureOf bs) b → (w : ℕ) → Loss (pictureOf bs) b w → lossIn ev ≤ w
-  -- 01: "the lowest number among equals"
-  pub lowest : (b : ℕ) → Candidate (pictureOf bs) b → Admissible (pictureOf bs) b → Loss (pictureOf bs) b (lossIn ev) → blockIn ev ≤ b
+  -- 02, C-12: "every other candidate that cuts none and loses equal weight now cuts at least as many cabs"
+  pub cuts : ℕ
+  pub counted : CutCount (pictureOf bs) (blockIn ev) cuts
+  pub fewest : (b : ℕ) → Candidate (pictureOf bs) b → Admissible (pictureOf bs) b → Loss (pictureOf bs) b (lossIn ev)
+      → (k : ℕ) → CutCount (pictureOf bs) b k → cuts ≤ k
+  -- 01: "the lowest number among equals": of those that lose as much and cut as many
+  pub lowest : (b : ℕ) → Candidate (pictureOf bs) b → Admissible (pictureOf bs) b → Loss (pictureOf bs) b (lossIn ev) → CutCount (pictureOf bs) b cuts
+      → blockIn ev ≤ b
   -- "Evicting the block from this picture is done", and the picture afterwards is accepted
   pub evicts : Evicts bs (blockIn ev)
   pub accepted : pictureFault (actBytes Evict bs (blockIn ev)) ≡ 0
@@ -97,6 +103,9 @@ pub record Proves (bs ev : List ℕ) : Type 0 where
   -- "Whatever other evidence passes for this picture, from any maker, has the same verdict and the same loss"
   pub verdicts : (other : List ℕ) → checkingNumbers (checking bs other) ≡ 0 ∷ [] → verdictIn other ≡ verdictIn ev
   pub losses : (other : List ℕ) → checkingNumbers (checking bs other) ≡ 0 ∷ [] → lossIn other ≡ lossIn ev
+  -- 02, C-12: "and passing evidence agrees on that number too": the blocks that are named cut equally many endpoints
+  pub numbers : (other : List ℕ) → checkingNumbers (checking bs other) ≡ 0 ∷ []
+      → (k l : ℕ) → CutCount (pictureOf bs) (blockIn other) k → CutCount (pictureOf bs) (blockIn ev) l → k ≡ l
 
 -- "Suppose a picture is accepted and the buffer is long enough": then choose answers, and all of that holds
 abbrev pub ThirdDemand : Type 0

@@ -14,7 +14,7 @@ use Rattle.picture.specs.Answers.{headerValues, readingNumbers, readingOf, read
 use Rattle.picture.specs.Faults.{sizesRight, countsRight, stateFault, linkFault, serviceLinkFault, listFaults, endRight, bodyFaults, faultsWith, pictureFault}
 use Rattle.graph.specs.Rounds.{further, within, reachedIn, levels, depthIn, reachedBy, nodeIn, forest}
 use Rattle.network.specs.Words.{slotCount, endpointCount, blockCount, inBlock, isHeld, heldWithout, joins, weightOf}
-use Rattle.network.specs.Tests.{marks, served, cut, weightWhere, servedWeight, weighed, isCandidate, candidates, isNearHeld}
+use Rattle.network.specs.Tests.{marks, served, cut, sumWhere, servedWeight, weighed, isCandidate, candidates, isNearHeld}
 use Rattle.weigh.specs.Weighing.{blockFault, weighFault, weightsOf, weighingOf, weighing, weightValues, weighingNumbers}
 use Rattle.packing.specs.Packing.{fieldsOf, digits, bits, bytesOf, packed}
 use Rattle.graph.specs.Kept.{nodeOf}
@@ -40,7 +40,7 @@ use Rattle.examples.specs.Table.{answer, Row, slotsOnly, freedA, table}
 
 -- its line names all that the examples compute through
 passes : Row → Bool
-unfolding bitAt number fieldAt range on first sum equal item all headerWidths slotWidths endpointWidths linkWidths serviceLinkWidths fieldIn slotsAt endpointsAt linksAt serviceLinksAt endAt sizeOf headerIn slotAt endpointAt linkAt rows pictureWith headerOf pictureOf slotOf endpointOf sizesRight countsRight stateFault linkFault serviceLinkFault listFaults endRight bodyFaults faultsWith pictureFault any further within reachedIn slotCount endpointCount blockCount inBlock isHeld heldWithout joins weightOf marks served cut weightWhere servedWeight weighed blockFault weighFault weightsOf weighingOf weighing lowest filter place flat levels depthIn reachedBy nodeIn forest isCandidate candidates digits bits bytesOf packed nodeOf headWidths nodeWidths sectionHeadWidths forestBits sectionBits sectionAt evidenceBytes weighings least choice fieldsOf headFields nodeFields forestFields forestOf sectionFields evidenceFields evidenceOf headIn sectionIn nodeAt forestIn firstForest sectionForest isIn nodeRight linkRight forestRight headRight sectionRight sectionsRight formRight sectionFault isNamed verdictRight checkFault lengthFor chooseFault chosenBytes shownPart shown headerValues readingOf reading readingNumbers choosingOf choosing choosingNumbers checkingOf checking checkingNumbers actingOf acting actingNumbers bettered bettering sectionBytes forestAt freedA setBit putField isNearHeld after blockSlots changes cutFault recoverableNear nearAfter nearFault actFault stateAt putStates doneBytes actBytes evidenceA caseA caseB caseC caseD caseE caseF caseG caseH caseI caseJ caseK caseM places decimal servedWord blockWord lostWord markWord chooseWord noneWord refusedWord lineEnd phrase servedLine blockLine choiceLine refusedLine planLines listingOf listing linesA weightValues weighingNumbers handed slotFrom endpointFrom linkFrom pictureFrom headerFor pairOf listsOf headerFields slotFields endpointFields linkFields pictureFields pictureBytes sizeFor handedFaults writeFault writingOf writing writingNumbers writtenBytes zipWith listsWith listsA answer slotsOnly
+unfolding bitAt number fieldAt range on first sum equal item all headerWidths slotWidths endpointWidths linkWidths serviceLinkWidths fieldIn slotsAt endpointsAt linksAt serviceLinksAt endAt sizeOf headerIn slotAt endpointAt linkAt rows pictureWith headerOf pictureOf slotOf endpointOf sizesRight countsRight stateFault linkFault serviceLinkFault listFaults endRight bodyFaults faultsWith pictureFault any further within reachedIn slotCount endpointCount blockCount inBlock isHeld heldWithout joins weightOf marks served cut sumWhere servedWeight weighed blockFault weighFault weightsOf weighingOf weighing lowest filter place flat levels depthIn reachedBy nodeIn forest isCandidate candidates digits bits bytesOf packed nodeOf headWidths nodeWidths sectionHeadWidths forestBits sectionBits sectionAt evidenceBytes weighings least choice fieldsOf headFields nodeFields forestFields forestOf sectionFields evidenceFields evidenceOf headIn sectionIn nodeAt forestIn firstForest sectionForest isIn nodeRight linkRight forestRight headRight sectionRight sectionsRight formRight sectionFault isNamed verdictRight checkFault lengthFor chooseFault chosenBytes shownPart shown headerValues readingOf reading readingNumbers choosingOf choosing choosingNumbers checkingOf checking checkingNumbers actingOf acting actingNumbers isLess bettered bettering sectionBytes forestAt freedA setBit putField isNearHeld after blockSlots changes cutFault recoverableNear nearAfter nearFault actFault stateAt putStates doneBytes actBytes evidenceA caseA caseB caseC caseD caseE caseF caseG caseH caseI caseJ caseK caseM places decimal servedWord blockWord lostWord markWord chooseWord noneWord refusedWord lineEnd phrase servedLine blockLine choiceLine refusedLine planLines listingOf listing linesA weightValues weighingNumbers handed slotFrom endpointFrom linkFrom pictureFrom headerFor pairOf listsOf headerFields slotFields endpointFields linkFields pictureFields pictureBytes sizeFor handedFaults writeFault writingOf writing writingNumbers writtenBytes zipWith listsWith listsA answer slotsOnly
 passes r = equal (answer (r .question)) (r .says)
 
 tested : T (all passes table)

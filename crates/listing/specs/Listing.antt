@@ -56,8 +56,8 @@ unfoldable pub servedLine : ℕ → List ℕ
 servedLine weight = phrase servedWord weight ++ lineEnd
 
 -- "block 0 lost 30 mark 1"
-unfoldable pub blockLine : Cost → List ℕ
-blockLine w = phrase blockWord (w .block) ++ (phrase lostWord (w .loss) ++ (phrase markWord (w .mark) ++ lineEnd))
+unfoldable pub blockLine : ℕ → ℕ → ℕ → List ℕ
+blockLine block loss mark = phrase blockWord block ++ (phrase lostWord loss ++ (phrase markWord mark ++ lineEnd))
 
 -- "choose 1 lost 12", or "choose none" for verdict 0
 unfoldable pub choiceLine : ℕ → ℕ → ℕ → List ℕ
@@ -75,7 +75,7 @@ unfoldable pub planLines : Picture → List ℕ
 planLines p =
     let ws : List Cost = weighings p in
     let c : Choice = least ws in
-    servedLine (servedWeight p) ++ (flat (map blockLine ws) ++ choiceLine (c .verdict) (c .block) (c .loss))
+    servedLine (servedWeight p) ++ (flat (map (λ w. blockLine (w .block) (w .loss) (w .mark)) ws) ++ choiceLine (c .verdict) (c .block) (c .loss))
 
 -- 0 is a plan; any other number is a refusal, of which the number is all that is printed
 unfoldable pub listingOf : ℕ → Picture → List ℕ

@@ -1,5 +1,5 @@
 -- `add_section` weighs a candidate and writes its section. Assumes nothing.
-use mathlib.Core.Path.{_≡_}
+use mathlib.Core.Path.{_≡_, sym}
 use lib.ListN.{length}
 use Rattle.rows.specs.Rows.{locationsMax}
 use Rattle.weigh.proofs.Serving.{sums-ready}
@@ -27,27 +27,35 @@ cast-t20 c = search needs
 cast-t21 : tie.Need-cast-t21
 cast-t21 c = search needs
 
+cast-t22 : tie.Need-cast-t22
+cast-t22 c = search needs
+
+-- the forest has a parent and a depth for every location
+parents : (c : tie.After-lost-between) → length (walked (c .before) .walk .result .parent) ≡ locationsMax
+parents c = search needs
+
+depths : (c : tie.After-lost-between) → length (walked (c .before) .walk .result .depth) ≡ locationsMax
+depths c = search needs
+
 slice-aggregate-put-section : tie.Need-slice-aggregate-put-section
-slice-aggregate-put-section c = search needs
+slice-aggregate-put-section c = sym (parents (c .before .before .before .before .before))
 
 slice-aggregate-put-section-2 : tie.Need-slice-aggregate-put-section-2
-slice-aggregate-put-section-2 c = search needs
+slice-aggregate-put-section-2 c = sym (depths (c .before .before .before .before .before .before))
 
 put-section-requires : tie.Need-put-section-requires
 put-section-requires c κs =
-    let s = c .before .before .before .before .before in
-    let w = walked (s .before) .walk in
+    let s = c .before .before .before .before .before .before in
     let p = start (s .before) .pre in
-    let parents : length (w .result .parent) ≡ locationsMax = search needs in
-    let depths : length (w .result .depth) ≡ locationsMax = search needs in
-    section-fits (p .rows) (lost-cost (p .rows) (p .left) (w .ensures) (s .lost-between .ensures)) (p .block) (p .room) parents depths
+    let cost = lost-cost (p .rows) (p .left) (walked (s .before) .walk .ensures) (s .lost-between .ensures) in
+    section-fits (p .rows) cost (p .block) (p .room) (parents s) (depths s)
 
 same-length : tie.Need-same-length
 same-length c = search needs
 
 returns : tie.Need-returns
 returns c = λ bs r l.
-    let s = c .before .before .before .before .before .before .before .before in
+    let s = c .before .before .before .before .before .before .before .before .before in
     section-done r l (walked (s .before) .walk .ensures) (s .lost-between .ensures) (c .before .before .put-section .ensures)
 
 pub add-section-spec : {M : Type 1} → statement M
@@ -58,6 +66,7 @@ add-section-spec =
     lost-between-requires
     cast-t20
     cast-t21
+    cast-t22
     slice-aggregate-put-section
     slice-aggregate-put-section-2
     put-section-requires
