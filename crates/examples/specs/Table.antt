@@ -17,7 +17,7 @@ use Rattle.acts.specs.Answers.{acting, actBytes, actingNumbers}
 use Rattle.write.specs.Columns.{Lists, handed, listsOf}
 use Rattle.write.specs.Answers.{writing, writingNumbers, writtenBytes}
 use Rattle.listing.specs.Listing.{listing}
-use Rattle.examples.specs.Cases.{evidenceA, listsWith, listsA, caseA, caseB, caseC, caseD, caseE, caseF, caseG, caseH, caseI, caseJ, caseK, caseM, linesA}
+use Rattle.examples.specs.Cases.{evidenceA, listsWith, listsA, caseA, caseB, caseC, caseD, caseE, caseF, caseG, caseH, caseI, caseJ, caseK, caseM, caseFewer, caseZero, caseEqual, linesA}
 
 -- what is asked
 pub data Question : Type 0 where
@@ -151,8 +151,23 @@ table =
     ∷ record { question = check caseA (set evidenceA 0 0x10); says = 16 ∷ [] }
     ∷ record { question = show caseA evidenceA; says = drop 30 evidenceA }
     ∷ record { question = show caseC (evidenceOf caseC); says = [] }
-    -- D has two least candidates: evidence that names the higher one passes too
+    -- D has two least candidates, which cut one endpoint each: evidence that names the higher one passes too
     ∷ record { question = check caseD (set (evidenceOf caseD) 1 1); says = 0 ∷ [] }
+    -- ties (02, C-12): the higher block that cuts fewer endpoints goes, also where the one more weighs 0, and evidence that names the other gets
+    -- 16; where both cut as many the lower one goes, and evidence that names either passes
+    ∷ record { question = choose caseFewer (replicate 31 0) 9; says = 0 ∷ 31 ∷ 0x11 ∷ 1 ∷ 2 ∷ 0 ∷ 0 ∷ 60 ∷ 0 ∷ 0 ∷ 30 ∷ [] }
+    ∷ record { question = check caseFewer (evidenceOf caseFewer); says = 0 ∷ [] }
+    ∷ record { question = check caseFewer (set (evidenceOf caseFewer) 1 0); says = 16 ∷ [] }
+    ∷ record { question = choose caseZero (replicate 31 0) 9; says = 0 ∷ 31 ∷ 0x11 ∷ 1 ∷ 2 ∷ 0 ∷ 0 ∷ 60 ∷ 0 ∷ 0 ∷ 30 ∷ [] }
+    ∷ record { question = check caseZero (evidenceOf caseZero); says = 0 ∷ [] }
+    ∷ record { question = check caseZero (set (evidenceOf caseZero) 1 0); says = 16 ∷ [] }
+    ∷ record { question = choose caseEqual (replicate 31 0) 9; says = 0 ∷ 31 ∷ 0x11 ∷ 0 ∷ 2 ∷ 0 ∷ 0 ∷ 60 ∷ 0 ∷ 0 ∷ 30 ∷ [] }
+    ∷ record { question = check caseEqual (evidenceOf caseEqual); says = 0 ∷ [] }
+    ∷ record { question = check caseEqual (set (evidenceOf caseEqual) 1 1); says = 0 ∷ [] }
+    -- no tie: endpoint 3 weighs 31, or is protected, and block 0 goes, though it cuts two
+    ∷ record { question = choose (set caseFewer 13 31) (replicate 31 0) 9; says = 0 ∷ 31 ∷ 0x11 ∷ 0 ∷ 2 ∷ 0 ∷ 0 ∷ 61 ∷ 0 ∷ 0 ∷ 30 ∷ [] }
+    ∷ record { question = choose (set caseFewer 14 0x80) (replicate 31 0) 9; says = 0 ∷ 31 ∷ 0x11 ∷ 0 ∷ 2 ∷ 0 ∷ 0 ∷ 60 ∷ 0 ∷ 0 ∷ 30 ∷ [] }
+    ∷ record { question = check (set caseFewer 14 0x80) (set (evidenceOf (set caseFewer 14 0x80)) 1 1); says = 16 ∷ [] }
     -- what the program prints for A, for G ("served 0", "choose none") and for A and one byte 00 ("refused 7")
     ∷ record { question = list caseA; says = linesA }
     ∷ record { question = list caseG; says = 115 ∷ 101 ∷ 114 ∷ 118 ∷ 101 ∷ 100 ∷ 32 ∷ 48 ∷ 10 ∷ 99 ∷ 104 ∷ 111 ∷ 111 ∷ 115 ∷ 101 ∷ 32 ∷ 110 ∷ 111 ∷ 110 ∷ 101 ∷ 10 ∷ [] }
