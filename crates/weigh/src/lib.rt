@@ -89,7 +89,11 @@ pub fn lost_between(
         }
         c += 1;
     }
-    Lost { weight, count, mark }
+    Lost {
+        weight,
+        count,
+        mark,
+    }
 }
 
 // Weighs a block of an accepted picture.
