@@ -25,7 +25,7 @@ use Rattle.evidence.specs.Contents.{headIn, sectionIn, sectionForest}
 use Rattle.evidence.specs.Checks.{forestRight, headRight, sectionRight, sectionsRight, formRight, verdictRight, isNamed}
 use Rattle.evidence.specs.Rules.{Form, SectionCost, Verdict, chosen, none}
 use Rattle.lists.proofs.Every.{all-range, range-all}
-use Rattle.evidence.proofs.Least.{Chosen, Nothing, least-right, none-least}
+use Rattle.evidence.proofs.Least.{taken, Chosen, Nothing, least-right, none-least}
 use Rattle.evidence.proofs.Choosing.{Least, least-same, least-best, best-least, marked-cut, cut-marked}
 
 -- ---- 13: the form
@@ -111,6 +111,26 @@ module _ {p : Picture} (n : Named p) (e : Edition) (ev : List ℕ) (i b : ℕ) w
 
 -- ---- 16: the verdict
 
+-- a cost as a choice of this block that loses and cuts as much as c
+abbrev named : ℕ → Choice → Choice
+named b c = record { verdict = 1; block = b; loss = c .loss; cuts = c .cuts }
+
+module _ {b : ℕ} (c : Choice) {w : Cost} where
+  test-named : T (isNamed b c w) → (w .mark ≡ 0) × (taken w ≡ named b c)
+  unfolding isNamed
+  test-named t =
+      let s1 = and-T (eqb (w .block) b) _ t in
+      let s2 = and-T (eqb (w .mark) 0) _ (s1 .1) in
+      let s3 = and-T (eqb (w .loss) (c .loss)) _ (s2 .1) in
+      let block = eqb→eq (w .block) b (s1 .0) in
+      let loss = eqb→eq (w .loss) (c .loss) (s3 .0) in
+      let cuts = eqb→eq (w .cuts) (c .cuts) (s3 .1) in
+      (eqb→eq (w .mark) 0 (s2 .0), λ i. record { verdict = 1; block = block i; loss = loss i; cuts = cuts i })
+
+  named-test : w .mark ≡ 0 → w .block ≡ b → w .loss ≡ c .loss → w .cuts ≡ c .cuts → T (isNamed b c w)
+  unfolding isNamed
+  named-test m e l k = rw (eq-eqb _ _ e, eq-eqb _ _ m, eq-eqb _ _ l, eq-eqb _ _ k) tt
+
 -- the test of the verdict, by what the head says
 verdictTest : List Cost → ℕ → ℕ → ℕ → Bool
 verdictTest ws v b l = eqb v (least ws .verdict) && (eqb l (least ws .loss) && cond (eqb (least ws .verdict) 0) (eqb b 0) (any (isNamed b (least ws)) ws))
@@ -123,7 +143,7 @@ module _ {p : Picture} (n : Named p) (below : (b : ℕ) → Candidate p b → b 
   c = least ws
 
   test-verdict : (v b l : ℕ) → T (verdictTest (weighings p) v b l) → Verdict p v b l
-  unfolding verdictTest isNamed ws c
+  unfolding verdictTest ws c
   test-verdict v b l t =
       let t1 = and-T (eqb v (c .verdict)) _ t in
       let t2 = and-T (eqb l (c .loss)) (cond (eqb (c .verdict) 0) (eqb b 0) (any (isNamed b c) ws)) (t1 .1) in
@@ -134,19 +154,9 @@ module _ {p : Picture} (n : Named p) (below : (b : ℕ) → Candidate p b → b 
           let one = ap (λ (x : Choice). x .verdict) (k .same) in
           let deep : c .verdict ≢ 0 = λ z. absurd (omega (arith, one)) in
           let r = any-at (getD [] 0 noCost) (isNamed b c) ws (subst (λ (x : Bool). T (cond x (eqb b 0) (any (isNamed b c) ws))) (ne-eqb (c .verdict) 0 deep) u) in
-          let w = getD ws (r .at) noCost in
-          let s1 = and-T (eqb (w .block) b) (eqb (w .mark) 0 && (eqb (w .loss) (c .loss) && eqb (w .cuts) (c .cuts))) (r .passes) in
-          let s2 = and-T (eqb (w .mark) 0) (eqb (w .loss) (c .loss) && eqb (w .cuts) (c .cuts)) (s1 .1) in
-          let s3 = and-T (eqb (w .loss) (c .loss)) (eqb (w .cuts) (c .cuts)) (s2 .1) in
-          let named : Choice = record { verdict = 1; block = b; loss = c .loss; cuts = c .cuts } in
-          let best : Least ws named =
-          record {
-            at = r .at;
-            within = r .within;
-            clear = eqb→eq (w .mark) 0 (s2 .0);
-            same = λ i. record { verdict = 1; block = eqb→eq (w .block) b (s1 .0) i; loss = eqb→eq (w .loss) (c .loss) (s3 .0) i; cuts = eqb→eq (w .cuts) (c .cuts) (s3 .1) i };
-            least = λ j h m. let o = k .least j h m in record { loss = o .loss; cuts = o .cuts };
-          } in
+          let is = test-named c (r .passes) in
+          let best : Least ws (named b c) =
+          record { at = r .at; within = r .within; clear = is .0; same = is .1; least = λ j h m. let o = k .least j h m in record { loss = o .loss; cuts = o .cuts } } in
           rw (ev ∙ one, el) (chosen (least-best n below best))
 
       nothing : v ≡ c .verdict → l ≡ c .loss → T (cond (eqb (c .verdict) 0) (eqb b 0) (any (isNamed b c) ws)) → Nothing ws c → Verdict p v b l
@@ -156,26 +166,22 @@ module _ {p : Picture} (n : Named p) (below : (b : ℕ) → Candidate p b → b 
           rw (ev ∙ no, z, el ∙ ap (λ (x : Choice). x .loss) (k .same)) (none (marked-cut n below (k .marked)))
 
   verdict-test : (v b l : ℕ) → Verdict p v b l → T (verdictTest (weighings p) v b l)
-  unfolding verdictTest isNamed ws c
+  unfolding verdictTest ws c
   verdict-test v b l (chosen t) =
       let k = best-least n below t in
       let q = least-same k in
-      let w = getD ws (k .at) noCost in
       let deep : c .verdict ≢ 0 = λ z. absurd (omega arith) in
       T-and (eqb 1 (c .verdict)) _ (eq-T 1 (c .verdict) (sym (q .0)))
       (T-and (eqb l (c .loss)) _ (eq-T l (c .loss) (sym (q .1)))
       (rw (ne-eqb (c .verdict) 0 deep)
       (at-any (getD [] 0 noCost) (isNamed b c) ws (k .at) (k .within)
-      (T-and (eqb (w .block) b) _ (eq-T (w .block) b (ap (λ (x : Choice). x .block) (k .same)))
-      (T-and (eqb (w .mark) 0) _ (eq-T (w .mark) 0 (k .clear))
-      (T-and (eqb (w .loss) (c .loss)) _ (eq-T (w .loss) (c .loss) (ap (λ (x : Choice). x .loss) (k .same) ∙ sym (q .1)))
-      (eq-T (w .cuts) (c .cuts) (ap (λ (x : Choice). x .cuts) (k .same) ∙ sym (q .2)))))))))
+      (named-test c (k .clear) (ap (λ (x : Choice). x .block) (k .same)) (ap (λ (x : Choice). x .loss) (k .same) ∙ sym (q .1)) (ap (λ (x : Choice). x .cuts) (k .same) ∙ sym (q .2))))))
   verdict-test v b l (none k) = rw (none-least ws (cut-marked n below k)) tt
 
   pub right-verdict : (ev : List ℕ) → T (verdictRight ev (weighings p)) → Verdict p (headIn ev .verdict) (headIn ev .block) (headIn ev .loss)
-  unfolding verdictRight verdictTest isNamed
+  unfolding verdictRight verdictTest
   right-verdict ev t = test-verdict (headIn ev .verdict) (headIn ev .block) (headIn ev .loss) t
 
   pub verdict-right : (ev : List ℕ) → Verdict p (headIn ev .verdict) (headIn ev .block) (headIn ev .loss) → T (verdictRight ev (weighings p))
-  unfolding verdictRight verdictTest isNamed
+  unfolding verdictRight verdictTest
   verdict-right ev v = verdict-test (headIn ev .verdict) (headIn ev .block) (headIn ev .loss) v
