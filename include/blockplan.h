@@ -101,19 +101,20 @@ enum blockplan_refusal {
     BLOCKPLAN_REFUSED_FORM = 13,      /* check: length, edition or candidate count wrong, a section of another block, a verdict or mark over 1 */
     BLOCKPLAN_REFUSED_FOREST = 14,    /* check: a forest breaks its rules */
     BLOCKPLAN_REFUSED_WEIGHT = 15,    /* check: served weight, a loss or a mark is wrong */
-    BLOCKPLAN_REFUSED_VERDICT = 16    /* check: verdict, block or loss is not what the sections imply */
+    BLOCKPLAN_REFUSED_VERDICT = 16    /* check: verdict, block or loss is not what the sections and their forests imply */
 };
 
 /*
- * Chooses the block to give up: of the blocks with a held near slot that cut no protected endpoint the one that loses least weight, the lowest
- * number among equals, or none. Writes the evidence for it into the buffer and returns its length; the bytes beyond stay as they were. Verdict,
- * block and loss are in its head (the macros above). Refuses with 1 to 7, then 9.
+ * Chooses the block to give up: of the blocks with a held near slot that cut no protected endpoint the one that loses least weight; of those
+ * that lose as much the one that cuts fewest endpoints, also counting those of weight 0; of those the one with the lowest number; or none.
+ * Writes the evidence for it into the buffer and returns its length; the bytes beyond stay as they were. Verdict, block and loss are in its
+ * head (the macros above). Refuses with 1 to 7, then 9.
  */
 int32_t blockplan_choose(const uint8_t *picture, size_t picture_length, uint8_t *evidence, size_t evidence_length);
 
 /*
  * Checks evidence, from whatever maker, against a picture. Returns 0 where it keeps all rules. Any other evidence that passes for the
- * same picture has the same verdict and the same loss. Refuses with 1 to 7, then 13 to 16.
+ * same picture has the same verdict and the same loss, and names a block that cuts as many endpoints. Refuses with 1 to 7, then 13 to 16.
  */
 int32_t blockplan_check(const uint8_t *picture, size_t picture_length, const uint8_t *evidence, size_t evidence_length);
 

@@ -18,7 +18,7 @@ use Rattle.network.specs.Words.{slotCount, isHeld}
 use Rattle.network.specs.Tests.{weighed, servedWeight, candidates}
 use Rattle.network.proofs.Weights.{weighed-block}
 use Rattle.evidence.specs.Canonical.{weighings}
-use Rattle.evidence.specs.Contents.{headIn, sectionIn, firstForest}
+use Rattle.evidence.specs.Contents.{headIn, firstForest}
 use Rattle.evidence.specs.Checks.{forestRight, formRight, sectionFault, verdictRight, checkFault}
 use Rattle.evidence.proofs.Judging.{numbersTest, test-numbers, right-form}
 use Rattle.evidence.proofs.Weighings.{weighings-length, weighing-at, weighings-made}

@@ -191,6 +191,9 @@ module _ {x : Given} where
   gone-ended {k = k} g l =
       scan-ended (faultOf x) 0 (parts (x .bs)) k (g .clean) (omega (arith, length-range 0 (suc (length (candidates (pic x)))), g .tables .counted))
 
+  pub counted-begun : {cuts : List ℕ} → length cuts ≡ blocksMax → Counted x cuts 0
+  counted-begun m = record { many = m; same = λ i h. absurd (omega arith) }
+
   pub counted-ended : {cuts : List ℕ} {k : ℕ} → Counted x cuts k → Tables x → x .count < k → CutsOf (pic x) cuts
   counted-ended c t l = record { many = c .many; same = λ i h. c .same i (omega (arith, t .counted)) }
 

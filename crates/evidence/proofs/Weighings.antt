@@ -13,7 +13,7 @@ use Rattle.picture.specs.Picture.{Picture}
 use Rattle.network.specs.declared.Cost.{Cost}
 use Rattle.network.specs.Words.{blockCount, Candidate, CutsProtected, Admissible, Named}
 use Rattle.network.specs.Tests.{weighed, candidates}
-use Rattle.network.proofs.Weights.{weighed-block, mark-protected, protected-mark, mark-le}
+use Rattle.network.proofs.Weights.{mark-protected, protected-mark, mark-le}
 use Rattle.network.proofs.Candidates.{candidates-are, candidates-all}
 use Rattle.evidence.specs.Canonical.{noCost, weighings}
 

@@ -1,8 +1,7 @@
 -- `implied` goes over the sections in the order of choice. Assumes nothing.
-use mathlib.Core.Path.{_≡_, sym, ap, _∙_}
+use mathlib.Core.Path.{_≡_, ap, _∙_}
 use Prim.Native.Nat.{ℕ, _-_, _≤_}
 use native.Mathlib.Omega.{arith}
-use Rattle.evidence.specs.declared.Choice.{Choice}
 use Rattle.evidence.specs.Canonical.{bettered, least}
 use Rattle.checker.specs.Verdict.{stated}
 use Rattle.checker.proofs.Verdicts.{implied-begun, implied-next}
