@@ -181,6 +181,12 @@ module _ {bs ev held : List ℕ} {count : ℕ} {links services : List (List ℕ)
 
 -- ---- going over the parts
 
+-- what the sums over the marks of part k come to
+record Found (x : Given) (k : ℕ) (lost : Lost) : Type 0 where
+  pub weight : lost .weight ≡ statedAt (pic x) k .loss
+  pub mark : 1 ≤ k → lost .mark ≡ statedAt (pic x) k .mark
+  pub cuts : (i : ℕ) → k ≡ suc i → lost .count ≡ weighed (pic x) (blockAt (pic x) i) .cuts
+
 module _ {x : Given} where
   pub gone-begun : {row : List ℕ} → Tables x → Gone x row 0
   gone-begun t = record { tables = t; clean = scan-begun (faultOf x) 0 (parts (x .bs)); reached = λ l. absurd (omega arith) }
@@ -204,26 +210,22 @@ module _ {x : Given} where
       let t = g .tables in
       record { gone = g; most = l; at = e; small = omega (arith, forest-small (x .n) k (t .few-slots) (omega (arith, t .few-parts))); holding = h }
 
-  -- what the sums over the marks of a part come to
   module _ (t : Tables x) {row inner : List ℕ} where
     sums-found : {k : ℕ} {before after : List ℕ} {lost : Lost} → Sides row inner k before after → Serves x (heldAt (pic x) k) inner
-        → (1 ≤ k → Serves x (isHeld (pic x)) row) → LostBetween (x .services) (x .weights) (x .guarded) (x .d) before after lost
-        → (lost .weight ≡ statedAt (pic x) k .loss) × (1 ≤ k → lost .mark ≡ statedAt (pic x) k .mark)
+        → (1 ≤ k → Serves x (isHeld (pic x)) row) → LostBetween (x .services) (x .weights) (x .guarded) (x .d) before after lost → Found x k lost
     unfolding heldAt statedAt
-    sums-found whole now r s = (served-met (t .end-rows) (t .endpoints) now (clear rowWords) s, λ l. absurd (omega arith))
-    sums-found (less {i = i}) now r s =
+    sums-found whole now r s =
+        record { weight = served-met (t .end-rows) (t .endpoints) now (clear rowWords) s; mark = λ l. absurd (omega arith); cuts = λ i e. absurd (omega arith) }
+    sums-found (less {i = j}) now r s =
         let all = r (suc-le-suc zero-le) in
-        (loss-met (t .end-rows) (t .endpoints) all (blockAt (pic x) i) now s, λ _. mark-met (t .end-rows) (t .endpoints) all (blockAt (pic x) i) now s)
-
-    cuts-found : {k : ℕ} {before after : List ℕ} {lost : Lost} → Sides row inner k before after → Serves x (heldAt (pic x) k) inner
-        → (1 ≤ k → Serves x (isHeld (pic x)) row) → LostBetween (x .services) (x .weights) (x .guarded) (x .d) before after lost
-        → (i : ℕ) → k ≡ suc i → lost .count ≡ weighed (pic x) (blockAt (pic x) i) .cuts
-    unfolding heldAt
-    cuts-found whole now r s i e = absurd (omega arith)
-    cuts-found (less {i = j}) now r s i e =
-        let all = r (suc-le-suc zero-le) in
-        let same : j ≡ i = omega arith in
-        cuts-met (t .end-rows) (t .endpoints) all (blockAt (pic x) j) now s ∙ ap (λ (u : ℕ). weighed (pic x) (blockAt (pic x) u) .cuts) same
+        let b = blockAt (pic x) j in
+        record {
+          weight = loss-met (t .end-rows) (t .endpoints) all b now s;
+          mark = λ _. mark-met (t .end-rows) (t .endpoints) all b now s;
+          cuts = λ i e.
+              let same : j ≡ i = omega arith in
+              cuts-met (t .end-rows) (t .endpoints) all b now s ∙ ap (λ (u : ℕ). weighed (pic x) (blockAt (pic x) u) .cuts) same;
+        }
 
     still : {k : ℕ} {before after : List ℕ} → Sides row inner k before after → Serves x (heldAt (pic x) k) inner → (1 ≤ k → Serves x (isHeld (pic x)) row)
         → Serves x (isHeld (pic x)) before
@@ -289,8 +291,11 @@ module _ {x : Given} where
           serving (pic x) (heldAt (pic x) k) (g .tables .named) (g .tables .service-rows) (λ v z. kept-reached fit len v (test-in _ v (subst T (here v) z)))
           (λ v z. subst T (sym (here v)) (in-test _ v (reached-kept fit z)))
 
+      sums : Found x k lost
+      sums = sums-found (g .tables) y now (g .reached) s
+
       stated : statedTest (x .n) (x .ev) k (lost .weight) (lost .mark) ≡ statedTest (x .n) (x .ev) k (statedAt (pic x) k .loss) (statedAt (pic x) k .mark)
-      stated = let e = sums-found (g .tables) y now (g .reached) s in stated-found (x .bs) (x .ev) (g .tables .many) k (e .0) (e .1)
+      stated = stated-found (x .bs) (x .ev) (g .tables .many) k (sums .weight) (sums .mark)
 
       -- the number of endpoints that a section's block cuts is kept in its place; the first forest has none
       pub part-counted : {cuts cuts′ : List ℕ} → Counted x cuts k → ((k ≡ 0) × (cuts′ ≡ cuts)) ⊎ ((k ≢ 0) × (cuts′ ≡ set cuts (k - 1) (lost .count))) → Counted x cuts′ (k + 1)
@@ -303,7 +308,7 @@ module _ {x : Given} where
             many = length-set cuts (k - 1) (lost .count) ∙ c .many;
             same = λ u h.
                 by-cases (ℕ-discrete u (k - 1))
-                (λ q. rw q (getD-set-same cuts (k - 1) (lost .count) 0 room ∙ cuts-found (g .tables) y now (g .reached) s (k - 1) (omega arith)))
+                (λ q. rw q (getD-set-same cuts (k - 1) (lost .count) 0 room ∙ sums .cuts (k - 1) (omega arith)))
                 (λ d. getD-set-other cuts (k - 1) u (lost .count) 0 d ∙ c .same u (omega arith));
           })
 

@@ -108,8 +108,8 @@ fn stated_right(ev: &[u8], n: usize, k: usize, lost: Lost) -> bool
 }
 
 // The first fault of the forests and of the weights that are stated of them, or 0: part by part, slot by slot, and the links of each
-// location in the forest. Part 0 is the first forest, and part i + 1 is section i. Where there is none, `cuts` has for each section how many
-// endpoints its block cuts, by these forests.
+// location in the forest. Part 0 is the first forest, and part i + 1 is section i. Without a fault, `cuts` then has for each section how
+// many endpoints its block cuts, by these forests.
 pub fn parts_fault(
     s: &[u8],
     h: Header,

@@ -60,7 +60,7 @@ fn is_named(w: Cost, block: usize, c: Choice) -> bool
     w.cuts == c.cuts
 }
 
-// Whether some section is.
+// Whether one of the sections is such.
 fn any_named(ev: &[u8], n: usize, count: usize, cuts: &[u8], block: usize, c: Choice) -> bool
     requires { ⌜ (n ≤ slotsMax) × (count ≤ 255) × (count ≤ length (now cuts)) ⌝ }
     ensures { λ r. ⌜ r ≡ any (isNamed block c) (stated n (now (ev .entry)) (now (cuts .entry)) count) ⌝ }

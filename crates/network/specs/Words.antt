@@ -67,7 +67,7 @@ ServedWeight p held = Sum p (weightOf p) (Served p held)
 abbrev pub Loss : Picture → ℕ → ℕ → Type 0
 Loss p b = Sum p (weightOf p) (Cuts p b)
 
--- how many endpoints b cuts, each once, whatever it weighs
+-- how many endpoints b cuts, each once, whatever they weigh
 abbrev pub CutCount : Picture → ℕ → ℕ → Type 0
 CutCount p b = Sum p (λ _. 1) (Cuts p b)
 

@@ -4,6 +4,7 @@ use mathlib.Core.Bool.{Bool, true, false, not, _&&_, _||_}
 use mathlib.Core.List.{List, [], map}
 use Prim.Native.Nat.{ℕ, suc, _+_, _-_, _*_, _≤_}
 use native.Mathlib.Omega.{arith}
+use native.Mathlib.Nat.{add-zero}
 use lib.Dec.{T, not-T}
 use lib.ListN.{getD}
 use Rattle.lists.specs.Lists.{range, on, sum, any}
@@ -39,6 +40,15 @@ module _ (row before after gone : List ℕ) (m : Minus before after gone) where
       let c = a .common tt in
       absurd (k .apart tt (c .0) (c .1) (subst T (sym (m .marks (c .0))) (T-and (marked before (c .0)) (not (marked after (c .0))) (c .2) (not-T (marked after (c .0)) (b .apart tt (c .0) (c .1))))))
 
+-- something is added where an endpoint is lost (`hit`)
+pub added-hit : {hit : Bool} (a v : ℕ) {b : ℕ} → hit ≡ true → b ≡ a + v → b ≡ a + on hit v
+unfolding on
+added-hit a v h e = rw h e
+
+pub added-miss : {hit : Bool} (a v : ℕ) {b : ℕ} → hit ≡ false → b ≡ a → b ≡ a + on hit v
+unfolding on
+added-miss a v h e = rw h (e ∙ sym (add-zero a))
+
 -- the endpoints from 1 up to c are looked at
 pub record Picking (table : List (List ℕ)) (weights guarded before after : List ℕ) (lost : Lost) (c : ℕ) : Type 0 where
   pub some : 1 ≤ c
@@ -57,7 +67,7 @@ module _ (table : List (List ℕ)) (weights guarded before after : List ℕ) whe
         between = record { weighs = λ f g a b. refl; counts = λ f g a b. refl; marks = λ f g a b. refl };
       }
 
-  -- one endpoint more: it is lost (`hit`) or it is not
+  -- one endpoint more: it is lost or it is not
   pub picking-next : (lost lost′ : Lost) (c : ℕ) (hit : Bool) → Picking table weights guarded before after lost c → getD weights c 0 ≤ weightMax
       → LostRow (getD table c []) before after hit → lost′ .weight ≡ lost .weight + on hit (getD weights c 0) → lost′ .count ≡ lost .count + on hit 1
       → on (marked guarded c && hit) 1 + on (not (marked guarded c && hit)) (lost .mark) ≡ lost′ .mark → Picking table weights guarded before after lost′ (c + 1)

@@ -5,14 +5,14 @@ use mathlib.Core.Bool.{Bool, not, _&&_}
 use mathlib.Core.List.{List}
 use mathlib.Core.Logic.{⊎-elim}
 use Prim.Native.Nat.{ℕ, suc, _+_, _-_, _≤_}
-use native.Mathlib.Nat.{add-zero, zero-add}
+use native.Mathlib.Nat.{zero-add}
 use lib.ListN.{length, getD}
 use Rattle.lists.specs.Lists.{on}
 use Rattle.rows.specs.Rows.{marked, Minus}
 use Rattle.picture.specs.Layout.{endpointsMax}
 use Rattle.weigh.specs.Sums.{Small}
 use Rattle.weigh.specs.declared.Lost.{Lost}
-use Rattle.weigh.proofs.Picking.{Picking, picking-begun, picking-next, picking-ended}
+use Rattle.weigh.proofs.Picking.{added-hit, added-miss, Picking, picking-begun, picking-next, picking-ended}
 use borrow.Author.Needs.{needs}
 use Rattle.weigh.proofs.lost_between.Statement.{statement}
 use Rattle.weigh.proofs.lost_between.Tie as tie
@@ -41,19 +41,11 @@ looked c = c .before .before .before .before
 -- a lost endpoint's weight is added
 weight-next : (c : tie.Joined1 Inv-loop μ-loop) → let l = turn (c .before) in
     c .if1 .weight ≡ l .loop .weight + on (c .before .is-lost .result) (getD (l .before .before .args .weights .now) (l .loop .c) 0)
-unfolding on
-weight-next c =
-    let l = turn (c .before) in
-    let sum : Bool → ℕ = λ b. l .loop .weight + on b (getD (l .before .before .args .weights .now) (l .loop .c) 0) in
-    ⊎-elim (λ x. x .2 ∙ ap sum (sym (x .0 .taken))) (λ x. x .1 ∙ sym (ap sum (x .0 .left) ∙ add-zero (l .loop .weight))) (c .if1 .came)
+weight-next c = ⊎-elim (λ x. added-hit _ _ (x .0 .taken) (x .2)) (λ x. added-miss _ _ (x .0 .left) (x .1)) (c .if1 .came)
 
 -- and it is counted
 count-next : (c : tie.Joined1 Inv-loop μ-loop) → let l = turn (c .before) in c .if1 .count ≡ l .loop .count + on (c .before .is-lost .result) 1
-unfolding on
-count-next c =
-    let l = turn (c .before) in
-    let sum : Bool → ℕ = λ b. l .loop .count + on b 1 in
-    ⊎-elim (λ x. x .3 ∙ ap sum (sym (x .0 .taken))) (λ x. x .2 ∙ sym (ap sum (x .0 .left) ∙ add-zero (l .loop .count))) (c .if1 .came)
+count-next c = ⊎-elim (λ x. added-hit _ _ (x .0 .taken) (x .3)) (λ x. added-miss _ _ (x .0 .left) (x .2)) (c .if1 .came)
 
 -- a lost protected endpoint sets the mark
 mark-next : (c : tie.Joined2 Inv-loop μ-loop) → let k = looked c in let l = turn k in
