@@ -38,6 +38,10 @@ pub struct Lost {
     pub mark: u8,
 }
 
+// One word has both sums over endpoints: that of their weights in units of this, and below it their number, which is less. A second word in
+// that loop costs time.
+const SUM_UNIT: u32 = 256;
+
 // Whether an endpoint is lost, which the locations of the row serve: one that is gone served it, and none that is left (`after`) does. Most
 // endpoints are served by nothing that is gone, so the first look is the only one.
 fn is_lost(row: [u64; WORDS], gone: [u64; WORDS], after: [u64; WORDS]) -> bool
@@ -73,16 +77,14 @@ pub fn lost_between(
     ensures { λ r. ⌜ LostBetween (now (services .entry)) (now (weights .entry)) protected d before after r ⌝ }
 {
     let gone = rows::minus(before, after);
-    let mut weight: u32 = 0;
-    let mut count: u8 = 0;
+    let mut sum: u32 = 0;
     let mut mark: u8 = 0;
     let mut c: usize = 1;
     while c <= d {
         let row = services[c];
         let lost = is_lost(row, gone, after);
         if lost {
-            weight += weights[c];
-            count += 1;
+            sum += weights[c] * SUM_UNIT + 1;
         }
         if is_lost_protected(lost, &protected, c) {
             mark = 1;
@@ -90,8 +92,8 @@ pub fn lost_between(
         c += 1;
     }
     Lost {
-        weight,
-        count,
+        weight: sum / SUM_UNIT,
+        count: (sum % SUM_UNIT) as u8,
         mark,
     }
 }

@@ -4,7 +4,7 @@ use native.Mathlib.Omega.{arith}
 use mathlib.Core.Bool.{Bool, not, _&&_}
 use mathlib.Core.List.{List}
 use mathlib.Core.Logic.{⊎-elim}
-use Prim.Native.Nat.{ℕ, suc, _+_, _-_, _≤_}
+use Prim.Native.Nat.{ℕ, suc, _+_, _-_, _/_, _%_, _≤_, _<_}
 use native.Mathlib.Nat.{zero-add}
 use lib.ListN.{length, getD}
 use Rattle.lists.specs.Lists.{on}
@@ -24,12 +24,15 @@ record Loop (services : List (List ℕ)) (weights protected : List ℕ) (d : ℕ
   pub small : Small weights
   pub picking : (before : List ℕ) → Minus before after gone → Picking services weights protected before after lost c
 
+-- weight and number are in one word
+abbrev parted : ℕ → ℕ → Lost
+parted sum mark = record { weight = sum / 256; count = sum % 256; mark = mark }
+
 abbrev Inv-loop : tie.InvT-loop
-Inv-loop services weights d after protected gone weight₀ count₀ mark₀ c₀ weight count mark c =
-    Loop services weights protected d gone after (record { weight = weight; count = count; mark = mark }) c
+Inv-loop services weights d after protected gone sum₀ mark₀ c₀ sum mark c = Loop services weights protected d gone after (parted sum mark) c
 
 abbrev μ-loop : tie.MeasureT-loop
-μ-loop services weights d after protected gone weight₀ count₀ mark₀ c₀ weight count mark c = d + 1 - c
+μ-loop services weights d after protected gone sum₀ mark₀ c₀ sum mark c = d + 1 - c
 
 -- the places of the code: the loop's test, and where the endpoint at hand is found lost or not
 abbrev turn : tie.After-is-lost Inv-loop μ-loop → tie.At-loop Inv-loop μ-loop
@@ -38,14 +41,22 @@ turn c = c .before .before .before
 abbrev looked : tie.Joined2 Inv-loop μ-loop → tie.After-is-lost Inv-loop μ-loop
 looked c = c .before .before .before .before
 
+-- there is room for one endpoint more in the number
+few : (l : tie.At-loop Inv-loop μ-loop) → l .loop .sum % 256 < 255
+few l = omega (arith, l .loop .inv .picking _ (l .before .minus .ensures) .few, l .loop .inv .within, l .loop .inv .few)
+
 -- a lost endpoint's weight is added
 weight-next : (c : tie.Joined1 Inv-loop μ-loop) → let l = turn (c .before) in
-    c .if1 .weight ≡ l .loop .weight + on (c .before .is-lost .result) (getD (l .before .before .args .weights .now) (l .loop .c) 0)
-weight-next c = ⊎-elim (λ x. added-hit _ _ (x .0 .taken) (x .2)) (λ x. added-miss _ _ (x .0 .left) (x .1)) (c .if1 .came)
+    c .if1 .sum / 256 ≡ l .loop .sum / 256 + on (c .before .is-lost .result) (getD (l .before .before .args .weights .now) (l .loop .c) 0)
+weight-next c =
+    let f = few (turn (c .before)) in
+    ⊎-elim (λ x. added-hit _ _ (x .0 .taken) (rw (x .2) (omega (arith, f)))) (λ x. added-miss _ _ (x .0 .left) (rw (x .1))) (c .if1 .came)
 
 -- and it is counted
-count-next : (c : tie.Joined1 Inv-loop μ-loop) → let l = turn (c .before) in c .if1 .count ≡ l .loop .count + on (c .before .is-lost .result) 1
-count-next c = ⊎-elim (λ x. added-hit _ _ (x .0 .taken) (x .3)) (λ x. added-miss _ _ (x .0 .left) (x .2)) (c .if1 .came)
+count-next : (c : tie.Joined1 Inv-loop μ-loop) → let l = turn (c .before) in c .if1 .sum % 256 ≡ l .loop .sum % 256 + on (c .before .is-lost .result) 1
+count-next c =
+    let f = few (turn (c .before)) in
+    ⊎-elim (λ x. added-hit _ _ (x .0 .taken) (rw (x .2) (omega (arith, f)))) (λ x. added-miss _ _ (x .0 .left) (rw (x .1))) (c .if1 .came)
 
 -- a lost protected endpoint sets the mark
 mark-next : (c : tie.Joined2 Inv-loop μ-loop) → let k = looked c in let l = turn k in
@@ -74,21 +85,22 @@ element-copy-out-row c = search needs
 is-lost-requires : tie.Need-is-lost-requires Inv-loop μ-loop
 is-lost-requires c κs = search needs
 
-mul-weight : tie.Need-mul-weight Inv-loop μ-loop
-mul-weight c = search needs
+mul-sum : tie.Need-mul-sum Inv-loop μ-loop
+mul-sum c = search needs
 
-element-copy-out-weight : tie.Need-element-copy-out-weight Inv-loop μ-loop
-element-copy-out-weight c = search needs
+element-copy-out-sum : tie.Need-element-copy-out-sum Inv-loop μ-loop
+element-copy-out-sum c = search needs
 
-add-weight : tie.Need-add-weight Inv-loop μ-loop
-add-weight c =
+mul-sum-2 : tie.Need-mul-sum-2 Inv-loop μ-loop
+mul-sum-2 c = let l = turn (c .before .before) .loop in omega (arith, l .inv .small .weight (l .c))
+
+add-sum : tie.Need-add-sum Inv-loop μ-loop
+add-sum c = let l = turn (c .before .before) .loop in omega (arith, l .inv .small .weight (l .c))
+
+add-sum-2 : tie.Need-add-sum-2 Inv-loop μ-loop
+add-sum-2 c =
     let l = turn (c .before .before) in
-    omega (arith, l .loop .inv .picking _ (l .before .minus .ensures) .small, l .loop .inv .small .weight (l .loop .c))
-
-add-count : tie.Need-add-count Inv-loop μ-loop
-add-count c =
-    let l = turn (c .before .before) in
-    omega (arith, l .loop .inv .picking _ (l .before .minus .ensures) .few, l .loop .inv .few)
+    omega (arith, few l, l .loop .inv .picking _ (l .before .minus .ensures) .small, l .loop .inv .small .weight (l .loop .c))
 
 is-lost-protected-requires : tie.Need-is-lost-protected-requires Inv-loop μ-loop
 is-lost-protected-requires c κs = search needs
@@ -112,6 +124,9 @@ loop-again c =
           (weight-next (c .before .before .before)) (count-next (c .before .before .before)) (mark-next c);
     }
 
+cast-t29 : tie.Need-cast-t29 Inv-loop μ-loop
+cast-t29 c = omega arith
+
 returns : tie.Need-returns Inv-loop μ-loop
 returns c = picking-ended _ _ _ _ _ _ (c .before .loop .c) _ (c .before .loop .inv .picking _ (c .before .before .minus .ensures)) (omega (arith, c .before .loop .inv .within))
 
@@ -126,12 +141,14 @@ lost-between-spec =
     mul-row
     element-copy-out-row
     is-lost-requires
-    mul-weight
-    element-copy-out-weight
-    add-weight
-    add-count
+    mul-sum
+    element-copy-out-sum
+    mul-sum-2
+    add-sum
+    add-sum-2
     is-lost-protected-requires
     add-c
     loop-less
     loop-again
+    cast-t29
     returns)
