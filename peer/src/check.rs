@@ -4,7 +4,7 @@ use std::ops::Range;
 
 use crate::choice::{evidence_bytes, section_bytes, EVIDENCE_EDITION, HEAD_BYTES, SECTION_HEAD_BYTES};
 use crate::picture::{read, Picture};
-use crate::reach::{Forest, Network, NOTHING};
+use crate::reach::{Cut, Forest, Network, NOTHING};
 use crate::refusals;
 
 /// Evidence whose shape is right: everything that number 13 judges holds.
@@ -54,15 +54,17 @@ impl<'e> Evidence<'e> {
         }
     }
 
-    /// Verdict, block and loss are as the sections imply; any least admissible candidate will do.
-    fn verdict_fits(&self) -> bool {
-        let admissible = || self.sections.iter().filter(|section| section.mark == 0);
-        match admissible().map(|section| section.loss).min() {
+    /// Verdict, block and loss are as the sections and their cuts imply: any admissible candidate
+    /// will do that loses least and, of those, cuts fewest endpoints.
+    fn verdict_fits(&self, cuts: &[Cut]) -> bool {
+        let admissible = || self.sections.iter().zip(cuts).filter(|(_, cut)| cut.mark == 0);
+        match admissible().map(|(_, cut)| cut.rank()).min() {
             None => self.verdict == 0 && self.block == 0 && self.loss == 0,
             Some(least) => {
-                self.verdict == 1
-                    && self.loss == least
-                    && admissible().any(|section| section.block == self.block && section.loss == least)
+                let named = |(section, cut): (&Section, &Cut)| {
+                    section.block == self.block && section.loss == self.loss && cut.rank() == least
+                };
+                self.verdict == 1 && admissible().any(named)
             }
         }
     }
@@ -123,7 +125,9 @@ fn no_link_leads_on(network: &Network, forest: &Forest, from: usize, evicted: &R
     })
 }
 
-fn sections_fit(picture: &Picture, evidence: &Evidence) -> Result<(), u8> {
+/// The cut of each section, by the forests that the evidence brings, or the first fault of forests
+/// and sections. Evidence does not state how many endpoints a candidate cuts; the cut tells it.
+fn cuts(picture: &Picture, evidence: &Evidence) -> Result<Vec<Cut>, u8> {
     let network = Network::new(picture);
     if !forest_fits(&network, &evidence.forest, &NOTHING) {
         return Err(refusals::FOREST);
@@ -132,7 +136,7 @@ fn sections_fit(picture: &Picture, evidence: &Evidence) -> Result<(), u8> {
     if network.served_weight(&before) != evidence.served {
         return Err(refusals::WEIGHT);
     }
-    for section in &evidence.sections {
+    let cut = |section: &Section| {
         let evicted = picture.block_locations(usize::from(section.block));
         if !forest_fits(&network, &section.forest, &evicted) {
             return Err(refusals::FOREST);
@@ -141,15 +145,16 @@ fn sections_fit(picture: &Picture, evidence: &Evidence) -> Result<(), u8> {
         if cut.loss != section.loss || cut.mark != section.mark {
             return Err(refusals::WEIGHT);
         }
-    }
-    Ok(())
+        Ok(cut)
+    };
+    evidence.sections.iter().map(cut).collect()
 }
 
 fn checked<'e>(picture: &[u8], evidence: &'e [u8]) -> Result<Evidence<'e>, u8> {
     let picture = read(picture)?;
     let evidence = Evidence::read(&picture, evidence)?;
-    sections_fit(&picture, &evidence)?;
-    if evidence.verdict_fits() {
+    let cuts = cuts(&picture, &evidence)?;
+    if evidence.verdict_fits(&cuts) {
         Ok(evidence)
     } else {
         Err(refusals::VERDICT)

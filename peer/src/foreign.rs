@@ -33,10 +33,10 @@ pub fn evidence(random: &mut Random, picture: &Picture, growth: Growth) -> Vec<u
     plan.evidence(any_least(random, &plan))
 }
 
-/// Any of the least admissible candidates.
+/// Any of the admissible candidates that lose least and, of those, cut fewest endpoints.
 pub fn any_least<'p>(random: &mut Random, plan: &'p Plan) -> Option<&'p Section> {
-    let least = plan.least()?.cut.loss;
-    let ties: Vec<&Section> = plan.admissible().filter(|section| section.cut.loss == least).collect();
+    let least = plan.least()?.cut.rank();
+    let ties: Vec<&Section> = plan.admissible().filter(|section| section.cut.rank() == least).collect();
     Some(*random.pick(&ties))
 }
 

@@ -27,11 +27,20 @@ impl Forest {
     }
 }
 
-/// What evicting a block does: the weight lost, and whether a protected endpoint is cut.
+/// What evicting a block does: the weight lost, how many endpoints are cut, and whether a protected
+/// one is.
 #[derive(Clone, Copy, Debug, PartialEq, Eq)]
 pub struct Cut {
     pub loss: u32,
+    pub endpoints: usize,
     pub mark: u8,
+}
+
+impl Cut {
+    /// What choosing goes by before the block's number: the weight lost, then the endpoints cut.
+    pub fn rank(&self) -> (u32, usize) {
+        (self.loss, self.endpoints)
+    }
 }
 
 /// A picture with its links in adjacency lists.
@@ -107,12 +116,14 @@ impl<'p> Network<'p> {
             .sum()
     }
 
-    /// The cut between two service lists: an endpoint that was not served before is not cut.
+    /// The cut between two service lists: an endpoint that was not served before is not cut. One of
+    /// weight 0 counts as any other.
     pub fn cut(&self, before: &[bool], after: &[bool]) -> Cut {
-        let mut cut = Cut { loss: 0, mark: 0 };
+        let mut cut = Cut { loss: 0, endpoints: 0, mark: 0 };
         for ((endpoint, before), after) in self.picture.endpoints.iter().zip(before).zip(after) {
             if *before && !*after {
                 cut.loss += u32::from(endpoint.weight);
+                cut.endpoints += 1;
                 if endpoint.protected {
                     cut.mark = 1;
                 }
