@@ -23,6 +23,12 @@ pub const GROWTHS: [Growth; 3] = [Growth::Deep, Growth::Anywhere, Growth::AnyPar
 
 /// Valid evidence for the picture with other forests.
 pub fn evidence(random: &mut Random, picture: &Picture, growth: Growth) -> Vec<u8> {
+    let plan = plan(random, picture, growth);
+    plan.evidence(any_least(random, &plan))
+}
+
+/// What such evidence states, before the verdict.
+pub fn plan(random: &mut Random, picture: &Picture, growth: Growth) -> Plan {
     let network = Network::new(picture);
     let mut plan = Plan::of(picture);
     plan.forest = forest(random, &network, &NOTHING, growth);
@@ -30,7 +36,7 @@ pub fn evidence(random: &mut Random, picture: &Picture, growth: Growth) -> Vec<u
         let evicted = picture.block_locations(usize::from(section.block));
         section.forest = forest(random, &network, &evicted, growth);
     }
-    plan.evidence(any_least(random, &plan))
+    plan
 }
 
 /// Any of the admissible candidates that lose least and, of those, cut fewest endpoints.

@@ -124,6 +124,23 @@ pub fn long_chain(block_size: usize, slots: usize, endpoints: usize) -> Picture 
     }
 }
 
+/// A network in which blocks often lose equal weight and cut unequal numbers of endpoints. Each
+/// endpoint has a home, the block that serves it; there are at least as many endpoints as blocks.
+pub fn tied(random: &mut Random, block_size: usize, blocks: usize, endpoints: usize) -> Picture {
+    let homes = random_homes(random, blocks, endpoints);
+    let weights = equal_sums(random, &homes);
+    let protected = rarely(random);
+    let endpoint = |weight| Endpoint { weight, protected: random.below(32) < protected };
+    Picture {
+        block_size: block_size as u8,
+        near_limit: 255,
+        endpoints: weights.into_iter().map(endpoint).collect(),
+        slots: mostly_held_near(random, block_size * blocks),
+        links: mostly_from_origin(random, block_size * blocks),
+        serving: mostly_from_home(random, block_size, blocks, &homes),
+    }
+}
+
 /// Links named again until there are as many as there may be.
 pub fn repeat_links(random: &mut Random, picture: &mut Picture) {
     while picture.links.len() < MAX_LINKS {
@@ -175,6 +192,83 @@ fn random_serving(random: &mut Random, size: Size) -> Vec<(u8, u8)> {
     (0..size.serving)
         .map(|_| (random.between(0, locations) as u8, random.between(1, size.endpoints) as u8))
         .collect()
+}
+
+/// A block for each endpoint, and at least one endpoint for each block.
+fn random_homes(random: &mut Random, blocks: usize, endpoints: usize) -> Vec<usize> {
+    let mut homes: Vec<usize> = (0..blocks).collect();
+    homes.extend((blocks..endpoints).map(|_| random.below(blocks)));
+    random.shuffle(&mut homes);
+    homes
+}
+
+/// Weights of the same sum in each home: an endpoint takes a part of what is left there, often
+/// nothing, and the last one the rest.
+fn equal_sums(random: &mut Random, homes: &[usize]) -> Vec<u16> {
+    let part = *random.pick(&[0, 1, 1, 1, 1000, 10_000]);
+    let mut left = vec![random.between(0, 6); homes.len()];
+    let mut weights = Vec::with_capacity(homes.len());
+    for (place, &home) in homes.iter().enumerate() {
+        let taken = match homes[place + 1..].contains(&home) {
+            true => random.between(0, left[home].min(2)),
+            false => left[home],
+        };
+        left[home] -= taken;
+        weights.push(taken as u16 * part);
+    }
+    weights
+}
+
+/// How often, out of 32 times, a network has what spoils ties; half of the networks never.
+fn rarely(random: &mut Random) -> usize {
+    *random.pick(&[0, 0, 1, 4])
+}
+
+fn mostly_held_near(random: &mut Random, count: usize) -> Vec<Slot> {
+    let (not_held, far) = (rarely(random), rarely(random));
+    (0..count)
+        .map(|_| {
+            let state = match random.below(32) < not_held {
+                false => State::Held,
+                true => *random.pick(&[State::Recoverable, State::Freed]),
+            };
+            Slot { state, near: random.below(32) >= far }
+        })
+        .collect()
+}
+
+/// A link to each slot, from the origin or, so that blocks cut what hangs on them too, a lower slot.
+fn mostly_from_origin(random: &mut Random, slots: usize) -> Vec<(u8, u8)> {
+    let hanging = rarely(random);
+    let from = |random: &mut Random, slot: usize| match random.below(32) < hanging {
+        false => 0,
+        true => random.below(slot) as u8,
+    };
+    let mut links: Vec<(u8, u8)> = (1..=slots).map(|slot| (from(random, slot), slot as u8)).collect();
+    random.shuffle(&mut links);
+    links
+}
+
+/// One to three serving links from slots of the home, which may be the same; some endpoints have one
+/// from any location too, so that it may be that no block cuts them.
+fn mostly_from_home(
+    random: &mut Random,
+    block_size: usize,
+    blocks: usize,
+    homes: &[usize],
+) -> Vec<(u8, u8)> {
+    let elsewhere = rarely(random);
+    let mut serving = Vec::new();
+    for (endpoint, home) in (1..).zip(homes) {
+        for _ in 0..random.between(1, 3) {
+            serving.push(((home * block_size + random.between(1, block_size)) as u8, endpoint));
+        }
+        if random.below(32) < elsewhere {
+            serving.push((random.between(0, block_size * blocks) as u8, endpoint));
+        }
+    }
+    random.shuffle(&mut serving);
+    serving
 }
 
 fn random_links(random: &mut Random, shape: Shape, size: Size) -> Vec<(u8, u8)> {

@@ -148,7 +148,7 @@ fn heads(fields: &[Field], slots: usize) -> Vec<Field> {
 }
 
 /// Every verdict with every block and with every loss that the sections state, and its neighbours.
-fn each_verdict(comparison: &mut Comparison, picture: &Picture, evidence: &[u8]) {
+pub fn each_verdict(comparison: &mut Comparison, picture: &Picture, evidence: &[u8]) {
     let bytes = pack(picture);
     let slots = picture.slots.len();
     let sections = evidence[HEAD_BYTES + 2 * slots..].chunks(section_bytes(slots));

@@ -8,6 +8,7 @@ mod lists;
 mod networks;
 mod pictures;
 mod raw;
+mod ties;
 mod watch;
 
 use harness::{Comparison, ACTS};
@@ -20,7 +21,7 @@ const ROOM: usize = evidence_bytes(MAX_SLOTS, MAX_BLOCKS) + 11;
 
 type Group = fn(&mut Comparison, &mut Random, usize);
 
-pub const ALL: [(&str, Group); 28] = [
+pub const ALL: [(&str, Group); 30] = [
     ("truncations of the samples", pictures::truncations),
     ("bit flips of the samples", pictures::bit_flips),
     ("header fields, each value", pictures::header_fields),
@@ -37,6 +38,8 @@ pub const ALL: [(&str, Group); 28] = [
     ("networks: repeated links", networks::repeated),
     ("networks: layers", networks::layers),
     ("networks: full size", networks::full),
+    ("ties: small", ties::small),
+    ("ties: large", ties::large),
     ("evidence of the samples", evidence::of_samples),
     ("evidence, fields", evidence::fields),
     ("evidence, lengths and pictures", evidence::strangers),
