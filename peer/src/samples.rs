@@ -1,4 +1,4 @@
-//! The field examples of document 01, A to K and M, a larger network and the longest picture.
+//! The field examples of document 01, A to K and M, a tie, a larger network and the longest picture.
 
 use crate::networks::{dense_held, Size};
 use crate::picture::{pack, Endpoint, Picture, Slot, State};
@@ -87,6 +87,15 @@ pub fn case(letter: char) -> Picture {
     found.expect("a letter of document 01's examples").1
 }
 
+/// D with a third endpoint, of weight 0, which slot 2 serves: both blocks lose 30, block 0 cuts two
+/// endpoints and block 1 one.
+pub fn tie() -> Picture {
+    let mut picture = case('D');
+    picture.endpoints.push(Endpoint { weight: 0, protected: false });
+    picture.serving.push((2, 3));
+    picture
+}
+
 /// A larger network: 12 blocks of 4 slots and 18 endpoints. Slots 1 to 24 are three lines of eight
 /// from the origin, which a ring joins in their middles. Slots 25 to 48 hang on one slot of the
 /// lines each, every fourth one on a second; one of them serves each endpoint, and a second one every
@@ -130,17 +139,19 @@ pub fn longest() -> Picture {
     dense_held(&mut Random::new(1), size)
 }
 
-/// The samples that are small enough to try every bit of: the examples and the larger network.
+/// The samples that are small enough to try every bit of: the examples, the tie and the larger
+/// network.
 pub fn small() -> Vec<Picture> {
-    all().into_iter().map(|(_, picture)| picture).chain([larger()]).collect()
+    all().into_iter().map(|(_, picture)| picture).chain([tie(), larger()]).collect()
 }
 
-/// The pictures of `examples/` by their file names: the examples, the larger network, the longest
-/// picture, and A with a byte too many.
+/// The pictures of `examples/` by their file names: the examples, the tie, the larger network, the
+/// longest picture, and A with a byte too many.
 pub fn files() -> Vec<(String, Vec<u8>)> {
     let examples =
         all().into_iter().map(|(letter, picture)| (letter.to_lowercase().to_string(), pack(&picture)));
     let others = [
+        ("tie".to_string(), pack(&tie())),
         ("larger".to_string(), pack(&larger())),
         ("longest".to_string(), pack(&longest())),
         ("spare-byte".to_string(), [&A_BYTES[..], &[0]].concat()),
