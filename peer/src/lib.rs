@@ -37,3 +37,5 @@ pub use picture::{pack, read, Picture};
 mod random_tests;
 #[cfg(test)]
 mod tests;
+#[cfg(test)]
+mod tie_tests;

@@ -1,11 +1,11 @@
 //! Properties on random networks, and the forests held against document 01's own words.
 
 use crate::foreign::{self, GROWTHS};
-use crate::networks::{network, Size, SHAPES};
+use crate::networks::{network, tied, Size, SHAPES};
 use crate::picture::State;
 use crate::random::Random;
 use crate::tests::{choice_of, evidence_of};
-use crate::{check, evict, lists_of, pack, read, weigh, write, Picture};
+use crate::{check, evict, lists_of, pack, read, refusals, weigh, write, Picture};
 
 fn small_networks(seed: u64, count: usize) -> impl Iterator<Item = Picture> {
     let mut random = Random::new(seed);
@@ -13,6 +13,15 @@ fn small_networks(seed: u64, count: usize) -> impl Iterator<Item = Picture> {
         let size = Size::small(&mut random);
         let shape = *random.pick(&SHAPES);
         network(&mut random, shape, size)
+    })
+}
+
+fn tied_networks(seed: u64, count: usize) -> impl Iterator<Item = Picture> {
+    let mut random = Random::new(seed);
+    (0..count).map(move |_| {
+        let (block_size, blocks) = (random.between(1, 3), random.between(2, 4));
+        let endpoints = blocks + random.below(6);
+        tied(&mut random, block_size, blocks, endpoints)
     })
 }
 
@@ -74,6 +83,14 @@ fn weighed_by_words(picture: &Picture, now: &[Option<u8>], then: &[Option<u8>]) 
     (served, loss, mark)
 }
 
+/// How many endpoints are served now and not then.
+fn cut_by_words(picture: &Picture, now: &[Option<u8>], then: &[Option<u8>]) -> usize {
+    let is_cut = |endpoint: &usize| {
+        served_by_words(picture, now, *endpoint) && !served_by_words(picture, then, *endpoint)
+    };
+    (1..=picture.endpoints.len()).filter(is_cut).count()
+}
+
 fn is_candidate_by_words(picture: &Picture, block: usize) -> bool {
     let size = usize::from(picture.block_size);
     let held_near = |location: usize| {
@@ -108,6 +125,46 @@ fn weights_and_forests_follow_the_words() {
     }
 }
 
+/// The admissible candidates, rising, with their losses and the numbers of endpoints that they cut.
+fn admissible_by_words(picture: &Picture) -> Vec<(u8, u32, usize)> {
+    let now = fewest_links(picture, usize::MAX);
+    let mut admissible = Vec::new();
+    for block in 0..picture.block_count() {
+        let then = fewest_links(picture, block);
+        let (_, loss, mark) = weighed_by_words(picture, &now, &then);
+        if is_candidate_by_words(picture, block) && mark == 0 {
+            admissible.push((block as u8, loss, cut_by_words(picture, &now, &then)));
+        }
+    }
+    admissible
+}
+
+/// Those that no other candidate stands before: by a smaller loss or, where losses are equal, by
+/// fewer endpoints cut.
+fn best_by_words(admissible: &[(u8, u32, usize)]) -> Vec<(u8, u32)> {
+    let is_best = |&&(_, loss, cut): &&(u8, u32, usize)| {
+        admissible.iter().all(|&(_, other, others)| other > loss || (other == loss && others >= cut))
+    };
+    admissible.iter().filter(is_best).map(|&(block, loss, _)| (block, loss)).collect()
+}
+
+#[test]
+fn choices_and_verdicts_follow_the_words() {
+    for picture in small_networks(4, 1000).chain(tied_networks(5, 1000)) {
+        let bytes = pack(&picture);
+        let admissible = admissible_by_words(&picture);
+        let best = best_by_words(&admissible);
+        assert_eq!(choice_of(&bytes).1, best.first().copied());
+        for (block, loss, _) in admissible {
+            let mut evidence = evidence_of(&bytes);
+            evidence[1] = block;
+            evidence[6..9].copy_from_slice(&loss.to_be_bytes()[1..]);
+            let due = if best.contains(&(block, loss)) { Ok(()) } else { Err(refusals::VERDICT) };
+            assert_eq!(check(&bytes, &evidence), due, "block {block}");
+        }
+    }
+}
+
 #[test]
 fn every_evidence_passes_and_every_choice_can_be_evicted() {
     let mut random = Random::new(1);
@@ -117,7 +174,7 @@ fn every_evidence_passes_and_every_choice_can_be_evicted() {
         .flat_map(|shape| sizes.map(|size| (*shape, size)))
         .map(|(shape, size)| network(&mut random, shape, size))
         .collect();
-    for picture in small_networks(3, 400).chain(large) {
+    for picture in small_networks(3, 400).chain(tied_networks(6, 400)).chain(large) {
         let bytes = pack(&picture);
         assert_eq!(read(&bytes).as_ref(), Ok(&picture));
         let mut written = vec![0xFF; bytes.len()];
