@@ -237,7 +237,8 @@ fn mostly_held_near(random: &mut Random, count: usize) -> Vec<Slot> {
         .collect()
 }
 
-/// A link to each slot, from the origin or, so that blocks cut what hangs on them too, a lower slot.
+/// A link to each slot, from the origin or, so that blocks cut what hangs on them too, a lower slot;
+/// and links of any kind, which let other forests be.
 fn mostly_from_origin(random: &mut Random, slots: usize) -> Vec<(u8, u8)> {
     let hanging = rarely(random);
     let from = |random: &mut Random, slot: usize| match random.below(32) < hanging {
@@ -245,6 +246,7 @@ fn mostly_from_origin(random: &mut Random, slots: usize) -> Vec<(u8, u8)> {
         true => random.below(slot) as u8,
     };
     let mut links: Vec<(u8, u8)> = (1..=slots).map(|slot| (from(random, slot), slot as u8)).collect();
+    links.extend((0..random.between(0, slots)).map(|_| any_link(random, slots)));
     random.shuffle(&mut links);
     links
 }

@@ -6,9 +6,10 @@ use std::env;
 use std::fmt::Display;
 use std::process::exit;
 
+use peer::choice::{Plan, Section};
 use peer::faults::FAULTS;
 use peer::foreign::{self, GROWTHS};
-use peer::networks::{network, Size, SHAPES};
+use peer::networks::{network, tied, Size, SHAPES};
 use peer::picture::Picture;
 use peer::random::Random;
 use peer::{check, choose, evict, free, pack, reload, show, weigh};
@@ -19,6 +20,8 @@ const DEFAULT_SEED: u64 = 77;
 const ROUNDS: usize = 5;
 /// Networks whose lists are written.
 const WRITTEN: usize = 3;
+/// Random networks in which candidates lose equal weight.
+const TIES: usize = 4;
 /// Longer than evidence and picture of a small network, and what the buffer holds before.
 const ROOM: usize = 500;
 const BEFORE: u8 = 0xEE;
@@ -87,6 +90,18 @@ fn numbers(bytes: &[u8]) -> Vec<u32> {
     bytes.iter().copied().map(u32::from).collect()
 }
 
+fn ask_choose(table: &mut Table, bytes: &[u8], room: usize) {
+    let mut lent = vec![BEFORE; room];
+    let answer = choose(bytes, &mut lent);
+    let question = format!("choose {} (replicate {room} {BEFORE}) {room}", list(bytes));
+    table.add_buffer(question, answer, &lent);
+}
+
+fn ask_check(table: &mut Table, bytes: &[u8], evidence: &[u8]) {
+    let answer = check(bytes, evidence).map(|()| Vec::new());
+    table.add_answer(format!("check {} {}", list(bytes), list(evidence)), answer);
+}
+
 fn ask(table: &mut Table, random: &mut Random, picture: &Picture, bytes: &[u8], round: usize) {
     let name = list(bytes);
     let mut buffer = vec![BEFORE; ROOM];
@@ -96,10 +111,7 @@ fn ask(table: &mut Table, random: &mut Random, picture: &Picture, bytes: &[u8], 
     };
     let evidence = &buffer[..length];
     for room in [ROOM, length - 1] {
-        let mut lent = vec![BEFORE; room];
-        let answer = choose(bytes, &mut lent);
-        let question = format!("choose {name} (replicate {room} {BEFORE}) {room}");
-        table.add_buffer(question, answer, &lent);
+        ask_choose(table, bytes, room);
     }
     for block in 0..=picture.block_count() as u32 {
         let weighed =
@@ -115,8 +127,7 @@ fn ask(table: &mut Table, random: &mut Random, picture: &Picture, bytes: &[u8], 
         checked.push(damaged);
     }
     for evidence in checked {
-        let answer = check(bytes, &evidence).map(|()| Vec::new());
-        table.add_answer(format!("check {name} {}", list(&evidence)), answer);
+        ask_check(table, bytes, &evidence);
     }
     for (act, call) in ACTS {
         let block = random.below(picture.block_count()) as u32;
@@ -141,6 +152,46 @@ fn ask_pictures(table: &mut Table, random: &mut Random) {
             }
             let read = peer::read(&bytes).unwrap_or(picture);
             ask(table, random, &read, &bytes, round);
+        }
+    }
+}
+
+/// The admissible candidates of least loss, rising.
+fn least_loss(plan: &Plan) -> Vec<&Section> {
+    let least = plan.admissible().map(|section| section.cut.loss).min();
+    plan.admissible().filter(|section| Some(section.cut.loss) == least).collect()
+}
+
+/// A small network in which every admissible candidate loses some weight, and the lowest one of least
+/// loss is not chosen: it cuts more endpoints than another one.
+fn small_tie(random: &mut Random) -> Picture {
+    loop {
+        let endpoints = random.between(4, 6);
+        let picture = tied(random, 1, 3, endpoints);
+        let plan = Plan::of(&picture);
+        let Some(chosen) = plan.least() else { continue };
+        if chosen.cut.loss > 0 && least_loss(&plan)[0].block != chosen.block {
+            return picture;
+        }
+    }
+}
+
+/// Choose where candidates lose equal weight, and evidence that names each of them: with canonical
+/// forests in the samples, in one of which they cut equally many endpoints, and with another maker's
+/// forests in the random networks.
+fn ask_ties(table: &mut Table, random: &mut Random) {
+    let samples = [samples::case('D'), samples::tie()];
+    let mut asked: Vec<(Vec<u8>, Plan)> =
+        samples.iter().map(|sample| (pack(sample), Plan::of(sample))).collect();
+    for round in 0..TIES {
+        let picture = small_tie(random);
+        let plan = foreign::plan(random, &picture, GROWTHS[round % GROWTHS.len()]);
+        asked.push((pack(&picture), plan));
+    }
+    for (bytes, plan) in asked {
+        ask_choose(table, &bytes, plan.evidence(None).len());
+        for section in least_loss(&plan) {
+            ask_check(table, &bytes, &plan.evidence(Some(section)));
         }
     }
 }
@@ -206,6 +257,11 @@ fn main() {
     }
     ask_blocks(&mut table, &mut random);
     let written = table.rows.len() - asked;
-    eprintln!("questions: {asked} of {} pictures, {written} of lists", ROUNDS * SHAPES.len());
+    ask_ties(&mut table, &mut random);
+    let tied = table.rows.len() - asked - written;
+    eprintln!(
+        "questions: {asked} of {} pictures, {written} of lists, {tied} of ties",
+        ROUNDS * SHAPES.len()
+    );
     println!("unfoldable pub table : List Row\ntable =\n    {}\n    ∷ []", table.rows.join("\n    ∷ "));
 }
