@@ -194,10 +194,15 @@ fn random_serving(random: &mut Random, size: Size) -> Vec<(u8, u8)> {
         .collect()
 }
 
-/// A block for each endpoint, and at least one endpoint for each block.
+/// A block for each endpoint, and at least one endpoint for each block. In some networks many are of
+/// one block, so that the numbers of endpoints lie far apart.
 fn random_homes(random: &mut Random, blocks: usize, endpoints: usize) -> Vec<usize> {
+    let (crowded, quarters) = (random.below(blocks), random.below(4));
     let mut homes: Vec<usize> = (0..blocks).collect();
-    homes.extend((blocks..endpoints).map(|_| random.below(blocks)));
+    homes.extend((blocks..endpoints).map(|_| match random.below(4) < quarters {
+        false => random.below(blocks),
+        true => crowded,
+    }));
     random.shuffle(&mut homes);
     homes
 }
