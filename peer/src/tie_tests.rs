@@ -1,7 +1,7 @@
 //! Candidates of equal loss: the one that cuts fewer endpoints goes, then the lower one, and
 //! evidence may name any that cuts as few.
 
-use crate::picture::{Endpoint, Slot, State};
+use crate::picture::{Endpoint, Slot, State, MAX_ENDPOINTS};
 use crate::samples::{case, tie};
 use crate::tests::{choice_of, evidence_of};
 use crate::{check, listing, pack, refusals, show, weigh, Picture};
@@ -85,6 +85,24 @@ fn weight_comes_before_the_number_of_endpoints() {
     let picture = drawn(2, &[(31, &[1]), (10, &[2]), (10, &[2]), (10, &[2])]);
     assert_eq!(chosen(&picture), Some((1, 30)));
     assert_eq!(named(&picture, 0), Err(refusals::VERDICT));
+    assert_eq!(named(&picture, 1), Ok(()));
+}
+
+#[test]
+fn numbers_up_to_all_endpoints_decide() {
+    // 130 endpoints against 70, and nothing weighs anything.
+    let mut endpoints: Vec<Drawn> = vec![(0, &[1]); 130];
+    endpoints.resize(MAX_ENDPOINTS, (0, &[2]));
+    let apart = drawn(2, &endpoints);
+    assert_eq!(chosen(&apart), Some((1, 0)));
+    assert_eq!(named(&apart, 0), Err(refusals::VERDICT));
+    // Slot 2 hangs on slot 1 and serves all endpoints but one: 200 against 199.
+    endpoints.fill((0, &[2]));
+    endpoints[7] = (0, &[1]);
+    let mut line = drawn(2, &endpoints);
+    line.links = vec![(0, 1), (1, 2)];
+    assert_eq!(chosen(&line), Some((1, 0)));
+    assert_eq!(named(&line, 0), Err(refusals::VERDICT));
 }
 
 #[test]
