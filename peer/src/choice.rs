@@ -46,8 +46,8 @@ impl Plan {
         self.sections.iter().filter(|section| section.cut.mark == 0)
     }
 
-    /// The admissible candidate of least loss, and of those the one that cuts fewest endpoints;
-    /// `min_by_key` gives the first of equals, the lowest.
+    /// The admissible candidate that loses least and, of those, cuts fewest endpoints; `min_by_key`
+    /// gives the first of equals, the lowest.
     pub fn least(&self) -> Option<&Section> {
         self.admissible().min_by_key(|section| section.cut.rank())
     }

@@ -12,7 +12,7 @@ use super::evidence::{each_verdict, random_fields};
 use super::harness::Comparison;
 use super::{canonical, choose_and_check};
 
-/// So many blocks of least loss are named, all of them in small networks.
+/// At most so many blocks of least loss are named; in small networks these are all of them.
 const NAMED: usize = 6;
 
 /// Few blocks, with every verdict in some of them.
