@@ -163,32 +163,27 @@ fn least_loss(plan: &Plan) -> Vec<&Section> {
 }
 
 /// A small network in which every admissible candidate loses some weight, and the lowest one of least
-/// loss is not chosen: it cuts more endpoints than another one.
-fn small_tie(random: &mut Random) -> Picture {
+/// loss is not chosen: it cuts more endpoints than another one. The forests are another maker's.
+fn small_tie(random: &mut Random) -> (Vec<u8>, Plan) {
     loop {
         let endpoints = random.between(4, 6);
         let picture = tied(random, 1, 3, endpoints);
-        let plan = Plan::of(&picture);
+        let growth = *random.pick(&GROWTHS);
+        let plan = foreign::plan(random, &picture, growth);
         let Some(chosen) = plan.least() else { continue };
-        if chosen.cut.loss > 0 && least_loss(&plan)[0].block != chosen.block {
-            return picture;
+        let is_decided = chosen.cut.loss > 0 && least_loss(&plan)[0].block != chosen.block;
+        if is_decided && plan.forest != Plan::of(&picture).forest {
+            return (pack(&picture), plan);
         }
     }
 }
 
-/// Choose where candidates lose equal weight, and evidence that names each of them: with canonical
-/// forests in the samples, in one of which they cut equally many endpoints, and with another maker's
-/// forests in the random networks.
+/// Choose where candidates lose equal weight, and evidence that names each of them. In D they cut
+/// equally many endpoints too.
 fn ask_ties(table: &mut Table, random: &mut Random) {
     let samples = [samples::case('D'), samples::tie()];
-    let mut asked: Vec<(Vec<u8>, Plan)> =
-        samples.iter().map(|sample| (pack(sample), Plan::of(sample))).collect();
-    for round in 0..TIES {
-        let picture = small_tie(random);
-        let plan = foreign::plan(random, &picture, GROWTHS[round % GROWTHS.len()]);
-        asked.push((pack(&picture), plan));
-    }
-    for (bytes, plan) in asked {
+    let samples = samples.map(|sample| (pack(&sample), Plan::of(&sample)));
+    for (bytes, plan) in samples.into_iter().chain((0..TIES).map(|_| small_tie(random))) {
         ask_choose(table, &bytes, plan.evidence(None).len());
         for section in least_loss(&plan) {
             ask_check(table, &bytes, &plan.evidence(Some(section)));
