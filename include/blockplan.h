@@ -101,7 +101,7 @@ enum blockplan_refusal {
     BLOCKPLAN_REFUSED_FORM = 13,      /* check: length, edition or candidate count wrong, a section of another block, a verdict or mark over 1 */
     BLOCKPLAN_REFUSED_FOREST = 14,    /* check: a forest breaks its rules */
     BLOCKPLAN_REFUSED_WEIGHT = 15,    /* check: served weight, a loss or a mark is wrong */
-    BLOCKPLAN_REFUSED_VERDICT = 16    /* check: verdict, block or loss is not what the sections and their forests imply */
+    BLOCKPLAN_REFUSED_VERDICT = 16    /* check: verdict, block or loss is not what sections and forests imply */
 };
 
 /*
@@ -114,7 +114,8 @@ int32_t blockplan_choose(const uint8_t *picture, size_t picture_length, uint8_t 
 
 /*
  * Checks evidence, from whatever maker, against a picture. Returns 0 where it keeps all rules. Any other evidence that passes for the
- * same picture has the same verdict and the same loss, and names a block that cuts as many endpoints. Refuses with 1 to 7, then 13 to 16.
+ * same picture has the same verdict and the same loss and, with verdict 1, names a block that cuts as many endpoints. Refuses with 1 to 7,
+ * then 13 to 16.
  */
 int32_t blockplan_check(const uint8_t *picture, size_t picture_length, const uint8_t *evidence, size_t evidence_length);
 

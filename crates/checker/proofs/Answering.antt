@@ -2,7 +2,7 @@
 use mathlib.Core.Path.{_≡_, refl, sym, ap, _∙_}
 use mathlib.Core.Bool.{true, false, not, Bool·not-not}
 use mathlib.Core.Logic.{_≢_}
-use mathlib.Core.List.{List, [], _∷_, _++_, map}
+use mathlib.Core.List.{List, [], _∷_, _++_, map, map-id}
 use Prim.Native.Nat.{ℕ, suc}
 use native.Mathlib.Omega.{arith}
 use lib.Dec.{eqb}
@@ -68,18 +68,18 @@ module _ (bs ev : List ℕ) where
 
       module _ (none : 0 ≡ partsFault bs ev) where
         -- what the sections state is what the candidates weigh
-        pub stated-weighings : {n count : ℕ} {cuts : List ℕ} → slotCount p ≡ n → count ≡ length (candidates p) → CutsOf p cuts → stated n ev cuts count ≡ weighings p
+        pub stated-weighings : {n count : ℕ} {cuts : List ℕ} → slotCount p ≡ n → count ≡ length (candidates p) → CutsOf p cuts count → stated n ev cuts count ≡ weighings p
         unfolding stated costIn partFault partsFault sectionFault numbersTest
         stated-weighings {cuts = cuts} many counted few =
             rw (← many, counted)
-            (weighings-made p (costIn (slotCount p) ev cuts)
+            (weighings-made p (λ w. w) (costIn (slotCount p) ev cuts)
             (λ i l.
             let w = weighed p (getD (candidates p) i 0) in
             let y = first-map-none (partFault bs ev) 0 (parts bs) (sym none) (suc i) (rw length-range (omega arith)) in
             let z = rw (part-of, weighing-at p i l) at y in
             let m = test-numbers edition1 p ev i w (rw Bool·not-not at (on-zero (not (numbersTest edition1 p ev i w)) 14 (first-zero _ z 1))) in
             let b = right-form edition1 p ev (rw f tt) .blocks i l ∙ sym (weighed-block p (getD (candidates p) i 0)) in
-            λ j. record { block = b j; loss = m .0 j; cuts = few .same i l j; mark = m .1 j }))
+            λ j. record { block = b j; loss = m .0 j; cuts = few .same i (omega (arith, counted)) j; mark = m .1 j }) ∙ map-id (weighings p))
 
         -- the verdict is wrong, or nothing is
         pub check-verdict : verdictRight ev (weighings p) ≡ false → 16 ≡ checkFault bs ev

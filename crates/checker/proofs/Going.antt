@@ -125,9 +125,8 @@ pub record Gone (x : Given) (row : List ℕ) (k : ℕ) : Type 0 where
   pub reached : 1 ≤ k → Serves x (isHeld (pic x)) row
 
 -- how many endpoints the blocks of the sections before part k cut
-pub record Counted (x : Given) (cuts : List ℕ) (k : ℕ) : Type 0 where
-  pub many : length cuts ≡ blocksMax
-  pub same : (i : ℕ) → suc i < k → getD cuts i 0 ≡ weighed (pic x) (blockAt (pic x) i) .cuts
+abbrev pub Counted : Given → List ℕ → ℕ → Type 0
+Counted x cuts k = CutsOf (pic x) cuts (k - 1)
 
 -- part k is at hand: its forest starts at bit q, and this is held in it
 pub record PartAt (x : Given) (row : List ℕ) (k q : ℕ) (left : List ℕ) : Type 0 where
@@ -179,6 +178,14 @@ module _ {bs ev held : List ℕ} {count : ℕ} {links services : List (List ℕ)
             rw (formed-block bs ev many form (k - 1) i) (read-block bs h r (blockAt p (k - 1)) (candidates-below p (k - 1) i));
       }
 
+-- ---- the numbers of endpoints cut
+
+pub cuts-none : {p : Picture} {cuts : List ℕ} → length cuts ≡ blocksMax → CutsOf p cuts 0
+cuts-none m = record { many = m; same = λ i h. absurd (omega arith) }
+
+pub cuts-fewer : {p : Picture} {cuts : List ℕ} {j k : ℕ} → CutsOf p cuts k → j ≤ k → CutsOf p cuts j
+cuts-fewer c l = record { many = c .many; same = λ i h. c .same i (omega arith) }
+
 -- ---- going over the parts
 
 -- what the sums over the marks of part k come to
@@ -196,12 +203,6 @@ module _ {x : Given} where
   unfolding partsFault
   gone-ended {k = k} g l =
       scan-ended (faultOf x) 0 (parts (x .bs)) k (g .clean) (omega (arith, length-range 0 (suc (length (candidates (pic x)))), g .tables .counted))
-
-  pub counted-begun : {cuts : List ℕ} → length cuts ≡ blocksMax → Counted x cuts 0
-  counted-begun m = record { many = m; same = λ i h. absurd (omega arith) }
-
-  pub counted-ended : {cuts : List ℕ} {k : ℕ} → Counted x cuts k → Tables x → x .count < k → CutsOf (pic x) cuts
-  counted-ended c t l = record { many = c .many; same = λ i h. c .same i (omega (arith, t .counted)) }
 
   -- a part is at hand
   pub part-begun : {row : List ℕ} {k q : ℕ} {left : List ℕ} → Gone x row k → k ≤ x .count → q ≡ forestAt edition1 (x .n) k

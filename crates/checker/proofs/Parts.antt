@@ -15,13 +15,13 @@ use Rattle.graph.specs.Kept.{ForestKept}
 use Rattle.picture.specs.Layout.{edition1}
 use Rattle.picture.specs.Picture.{Picture, pictureOf}
 use Rattle.network.specs.Words.{slotCount, isHeld, heldWithout, joins}
-use Rattle.network.specs.declared.Cost.{Cost}
 use Rattle.network.specs.Tests.{weighed, servedWeight, candidates}
 use Rattle.network.specs.Rows.{SlotRowsOf}
 use Rattle.network.proofs.Weights.{weighed-block}
 use Rattle.weigh.proofs.Serving.{left-held}
 use Rattle.evidence.specs.declared.Stated.{Stated}
 use Rattle.evidence.specs.Layout.{forestAt}
+use Rattle.evidence.specs.Canonical.{statedOf}
 use Rattle.evidence.specs.Contents.{sectionIn, forestIn, firstForest, sectionForest}
 use Rattle.evidence.specs.Checks.{forestRight, sectionFault}
 use Rattle.evidence.specs.Rules.{Form}
@@ -40,7 +40,7 @@ heldAt p (suc i) = heldWithout p (blockAt p i)
 
 unfoldable pub statedAt : Picture → ℕ → Stated
 statedAt p zero = record { block = 0; loss = servedWeight p; mark = 0 }
-statedAt p (suc i) = let w : Cost = weighed p (blockAt p i) in record { block = w .block; loss = w .loss; mark = w .mark }
+statedAt p (suc i) = statedOf (weighed p (blockAt p i))
 
 module _ (bs ev : List ℕ) {n : ℕ} (many : slotCount (pictureOf bs) ≡ n) where
   abbrev p : Picture

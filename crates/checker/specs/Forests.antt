@@ -43,10 +43,10 @@ partFault bs ev zero =
     first (on (not (forestRight p (isHeld p) (firstForest (editionOf bs) (slotCount p) ev))) 14 ∷ on (not (eqb (headIn ev .served) (servedWeight p))) 15 ∷ [])
 partFault bs ev (suc i) = sectionFault (editionOf bs) (pictureOf bs) ev (weighings (pictureOf bs)) i
 
--- for each candidate, at its place, how many endpoints it cuts
-pub record CutsOf (p : Picture) (cuts : List ℕ) : Type 0 where
+-- for each of the first k candidates, at its place, how many endpoints it cuts
+pub record CutsOf (p : Picture) (cuts : List ℕ) (k : ℕ) : Type 0 where
   pub many : length cuts ≡ blocksMax
-  pub same : (i : ℕ) → i < length (candidates p) → getD cuts i 0 ≡ weighed p (getD (candidates p) i 0) .cuts
+  pub same : (i : ℕ) → i < k → getD cuts i 0 ≡ weighed p (getD (candidates p) i 0) .cuts
 
 -- the first fault of the parts
 unfoldable pub partsFault : List ℕ → List ℕ → ℕ

@@ -121,7 +121,7 @@ pub fn parts_fault(
     requires { ⌜ Read (now s) h × ((near : List ℕ) × SlotRowsOf (pictureOf (now s)) held near) × (formRight edition1 (pictureOf (now s)) (now ev) ≡ true) × (count ≡ length (candidates (pictureOf (now s)))) ⌝ }
     requires { ⌜ length (now cuts) ≡ blocksMax ⌝ }
     ensures { λ r. ⌜ r ≡ partsFault (now (s .entry)) (now (ev .entry)) ⌝ }
-    ensures { λ r. ⌜ (r ≡ 0 → CutsOf (pictureOf (now (s .entry))) (now (cuts .exit))) ⌝ }
+    ensures { λ r. ⌜ (r ≡ 0 → CutsOf (pictureOf (now (s .entry))) (now (cuts .exit)) count) ⌝ }
 {
     let n = h.slots;
     let size = h.block_size;

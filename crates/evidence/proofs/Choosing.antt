@@ -21,7 +21,7 @@ use Rattle.evidence.proofs.Weighings.{Weighing, weighings-length, weigh
 
 -- ---- the verdict of the rules
 
--- a block, and loss and cuts, of a weighing without a mark, before which none such comes: any of the least, not only the first
+-- c is what some weighing without a mark is taken as, and none such comes before it: any of the least, not only the first
 pub record Least (ws : List Cost) (c : Choice) : Type 0 where
   pub at : ℕ
   pub within : at < length ws

@@ -146,7 +146,7 @@ module _ (bs : List ℕ) (z : pictureFault bs ≡ 0) where
   mark-at : (i : ℕ) → i < length (weighings p) → getD (weighings p) i noCost .mark ≤ 1
   mark-at i h = rw (weighing-at p i (omega (arith, weighings-length p))) (mark-le p _)
 
-  -- the choice is one of the weighings, or 0, 0 and 0
+  -- the choice is one of the weighings, or none
   pub choice-fits : (least (weighings (pictureOf bs)) .verdict ≤ 1) × (least (weighings (pictureOf bs)) .block < blocksMax) × (least (weighings (pictureOf bs)) .loss < 2 ^ 24)
   choice-fits = ⊎-elim
       (λ r. rw (r .same) (omega arith, block-at (r .at) (r .within), loss-at (r .at) (r .within)))

@@ -111,7 +111,7 @@ module _ {p : Picture} (n : Named p) (e : Edition) (ev : List ℕ) (i b : ℕ) w
 
 -- ---- 16: the verdict
 
--- a cost as a choice of this block that loses and cuts as much as c
+-- the choice of block b that loses and cuts as much as c
 abbrev named : ℕ → Choice → Choice
 named b c = record { verdict = 1; block = b; loss = c .loss; cuts = c .cuts }
 

@@ -45,12 +45,16 @@ module _ (p : Picture) where
       let s : i < length (candidates p) = omega (arith, weighings-length) in
       record { block = getD (candidates p) i 0; candidate = candidates-are p i s; same = weighing-at i s }
 
-  -- what has the numbers of each candidate, in their order, is the weighings
-  pub weighings-made : (f : ℕ → Cost) → ((i : ℕ) → i < length (candidates p) → f i ≡ weighed p (getD (candidates p) i 0))
-      → map f (range 0 (length (candidates p))) ≡ weighings p
-  weighings-made f same =
-      rw (← weighings-length)
-      (range-made noCost f (weighings p) (λ i h. let s : i < length (candidates p) = omega (arith, weighings-length) in same i s ∙ sym (weighing-at i s)))
+  -- a list of something of what each candidate weighs, in their order
+  pub weighings-made : {A : Type 0} (g : Cost → A) (f : ℕ → A) → ((i : ℕ) → i < length (candidates p) → f i ≡ g (weighed p (getD (candidates p) i 0)))
+      → map f (range 0 (length (candidates p))) ≡ map g (weighings p)
+  weighings-made g f same =
+      rw (← weighings-length, ← length-map (weighings p) g)
+      (range-made (g noCost) f (map g (weighings p))
+      (λ i h.
+      let s : i < length (weighings p) = omega (arith, length-map (weighings p) g) in
+      let t : i < length (candidates p) = omega (arith, weighings-length) in
+      same i t ∙ sym (map-at g (g noCost) noCost (weighings p) i s ∙ ap g (weighing-at i t))))
 
 -- ---- the mark
 

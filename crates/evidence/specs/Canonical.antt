@@ -14,11 +14,16 @@ use Rattle.network.specs.Words.{slotCount, isHeld, heldWithout, joins}
 use Rattle.network.specs.declared.Cost.{Cost}
 use Rattle.network.specs.Tests.{weighed, servedWeight, candidates}
 use Rattle.evidence.specs.declared.Choice.{Choice}
+use Rattle.evidence.specs.declared.Stated.{Stated}
 use Rattle.evidence.specs.Layout.{headWidths, nodeWidths, sectionHeadWidths}
 
 -- a cost that no list has, for a place past its end
 abbrev pub noCost : Cost
 noCost = record { block = 0; loss = 0; cuts = 0; mark = 0 }
+
+-- what a section states of a cost: all but how many endpoints are cut
+abbrev pub statedOf : Cost → Stated
+statedOf w = record { block = w .block; loss = w .loss; mark = w .mark }
 
 -- the candidates as they weigh, in rising order
 unfoldable pub weighings : Picture → List Cost

@@ -1,4 +1,4 @@
--- Evidence: document 01, "Choosing" (second half) and "Checking and evicting".
+-- Evidence: document 01, "Choosing" (second half) and "Checking and evicting"; 02, C-12, for ties.
 
 -- To be believed: its layout and what its bytes say; the order of choice and the evidence of a picture, which is computed with the tests of
 -- `network` and `graph` that are proved equal to 01's words there; the rules that evidence keeps; and what the calls do with their buffers

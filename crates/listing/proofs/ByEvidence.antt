@@ -1,20 +1,18 @@
 -- The lines that the evidence of an accepted picture tells are its listing. Assumes nothing.
 use mathlib.Core.Path.{_≡_, sym, ap, _∙_}
-use mathlib.Core.List.{List, map, map-map}
+use mathlib.Core.List.{List, map}
 use Prim.Native.Nat.{ℕ}
 use lib.ListN.{length, getD}
-use Rattle.lists.specs.Lists.{range, flat}
+use Rattle.lists.specs.Lists.{flat}
 use Rattle.picture.specs.declared.Header.{Header}
 use Rattle.picture.specs.Layout.{edition1}
 use Rattle.picture.specs.Picture.{Picture, pictureOf}
 use Rattle.picture.specs.Inner.{Read}
 use Rattle.network.specs.Words.{slotCount}
-use Rattle.network.specs.declared.Cost.{Cost}
-use Rattle.network.specs.Tests.{weighed, candidates}
+use Rattle.network.specs.Tests.{candidates}
 use Rattle.network.proofs.Weights.{weighed-block}
 use Rattle.network.proofs.Blocks.{read-slots}
-use Rattle.evidence.specs.Canonical.{weighings, evidenceOf}
-use Rattle.evidence.specs.declared.Stated.{Stated}
+use Rattle.evidence.specs.Canonical.{statedOf, weighings, evidenceOf}
 use Rattle.evidence.specs.Contents.{sectionIn}
 use Rattle.evidence.proofs.Weighings.{weighings-made}
 use Rattle.evidence.proofs.Held.{Reads, evidence-reads}
@@ -23,18 +21,14 @@ use Rattle.listing.specs.ByEvidence.{sectionLines, evidenceLines}
 
 module _ (p : Picture) (ev : List ℕ) (r : Reads edition1 p ev) where
   -- the lines of all sections are those of the candidates, in their order
-  sections-told : sectionLines (slotCount p) ev (length (candidates p)) ≡ flat (map (λ w. blockLine (w .block) (w .loss) (w .mark)) (weighings p))
+  sections-told : sectionLines (slotCount p) ev (length (candidates p)) ≡ flat (map (λ w. blockLine (statedOf w)) (weighings p))
   unfolding sectionLines
   sections-told =
-      let line : Cost → List ℕ = λ w. blockLine (w .block) (w .loss) (w .mark) in
-      let cost : ℕ → Cost =
-      λ i.
-      let w : Stated = sectionIn edition1 (slotCount p) ev i in
-      record { block = w .block; loss = w .loss; cuts = weighed p (getD (candidates p) i 0) .cuts; mark = w .mark } in
-      let all = weighings-made p cost (λ i h.
+      ap flat
+      (weighings-made p (λ w. blockLine (statedOf w)) (λ i. blockLine (sectionIn edition1 (slotCount p) ev i))
+      (λ i h.
       let b = r .blocks i h ∙ sym (weighed-block p (getD (candidates p) i 0)) in
-      λ j. record { block = b j; loss = r .losses i h j; cuts = weighed p (getD (candidates p) i 0) .cuts; mark = r .marks i h j }) in
-      ap flat (sym (map-map line cost (range 0 (length (candidates p)))) ∙ ap (map line) all)
+      ap blockLine (λ j. record { block = b j; loss = r .losses i h j; mark = r .marks i h j })))
 
   -- with the served weight and the choice
   lines-told : evidenceLines (slotCount p) ev ≡ planLines p

@@ -28,7 +28,7 @@ choice-named {verdict = suc k} n block loss = refl
 module _ (n : ℕ) (ev : List ℕ) where
   -- the line of section i
   abbrev line : ℕ → List ℕ
-  line i = let w = sectionIn edition1 n ev i in blockLine (w .block) (w .loss) (w .mark)
+  line i = blockLine (sectionIn edition1 n ev i)
 
   -- three words of six bytes, three numbers of eight digits and the end of the line are 43 bytes; the served weight takes fewer
   served-short : length (servedLine (headIn ev .served)) ≤ 43
@@ -62,7 +62,7 @@ module _ (n : ℕ) (ev : List ℕ) where
   sections-more i = rw (add-one i, range-more 0 i, zero-add i) (flat-map-more line (range 0 i) i)
 
   pub telling-next : {text₀ : List ℕ} {at₀ : ℕ} {text : List ℕ} {at : ℕ} {out : List ℕ} {end : ℕ} (i : ℕ) → Telling text₀ at₀ text at i
-      → Texted text at (line i) out end → Telling text₀ at₀ out end (i + 1)
+      → Texted text at (blockLine (sectionIn edition1 n ev i)) out end → Telling text₀ at₀ out end (i + 1)
   telling-next i p t = record { texted = rw (sections-more i) (text-then (p .texted) t); low = omega (arith, p .low, t .ends, line-short i) }
 
   -- all sections are told, and the choice

@@ -9,7 +9,7 @@ use Rattle.network.specs.declared.Cost.{Cost}
 use Rattle.network.specs.Repeats.{Repeated}
 use Rattle.network.proofs.Repeats.{repeated-served-weight}
 use Rattle.evidence.specs.declared.Choice.{Choice}
-use Rattle.evidence.specs.Canonical.{least}
+use Rattle.evidence.specs.Canonical.{statedOf, least}
 use Rattle.evidence.proofs.Repeats.{repeated-weighings}
 use Rattle.listing.specs.Listing.{servedLine, blockLine, choiceLine, planLines, listingOf, listing}
 
@@ -19,7 +19,7 @@ lines-same r =
     λ i.
     let ws : List Cost = repeated-weighings r i in
     let c : Choice = least ws in
-    servedLine (repeated-served-weight r i) ++ (flat (map (λ w. blockLine (w .block) (w .loss) (w .mark)) ws) ++ choiceLine (c .verdict) (c .block) (c .loss))
+    servedLine (repeated-served-weight r i) ++ (flat (map (λ w. blockLine (statedOf w)) ws) ++ choiceLine (c .verdict) (c .block) (c .loss))
 
 pub repeated-listing : (bs bs′ : List ℕ) → pictureFault bs ≡ 0 → pictureFault bs′ ≡ 0 → Repeated (pictureOf bs) (pictureOf bs′) → listing bs ≡ listing bs′
 unfolding listing listingOf

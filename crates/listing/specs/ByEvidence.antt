@@ -3,13 +3,12 @@ use mathlib.Core.List.{List, _++_, map}
 use Prim.Native.Nat.{ℕ}
 use Rattle.lists.specs.Lists.{range, flat}
 use Rattle.picture.specs.Layout.{edition1}
-use Rattle.evidence.specs.declared.Stated.{Stated}
 use Rattle.evidence.specs.Contents.{headIn, sectionIn}
 use Rattle.listing.specs.Listing.{servedLine, blockLine, choiceLine}
 
 -- the lines of the first k sections of evidence for n slots
 unfoldable pub sectionLines : ℕ → List ℕ → ℕ → List ℕ
-sectionLines n ev k = flat (map (λ i. let w : Stated = sectionIn edition1 n ev i in blockLine (w .block) (w .loss) (w .mark)) (range 0 k))
+sectionLines n ev k = flat (map (λ i. blockLine (sectionIn edition1 n ev i)) (range 0 k))
 
 -- all lines, off evidence for n slots
 unfoldable pub evidenceLines : ℕ → List ℕ → List ℕ

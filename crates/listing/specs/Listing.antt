@@ -8,7 +8,8 @@ use Rattle.picture.specs.Faults.{pictureFault}
 use Rattle.network.specs.declared.Cost.{Cost}
 use Rattle.network.specs.Tests.{servedWeight}
 use Rattle.evidence.specs.declared.Choice.{Choice}
-use Rattle.evidence.specs.Canonical.{weighings, least}
+use Rattle.evidence.specs.declared.Stated.{Stated}
+use Rattle.evidence.specs.Canonical.{statedOf, weighings, least}
 use Rattle.listing.specs.Decimal.{decimal}
 
 -- ---- the words, byte by byte
@@ -56,8 +57,8 @@ unfoldable pub servedLine : ℕ → List ℕ
 servedLine weight = phrase servedWord weight ++ lineEnd
 
 -- "block 0 lost 30 mark 1"
-unfoldable pub blockLine : ℕ → ℕ → ℕ → List ℕ
-blockLine block loss mark = phrase blockWord block ++ (phrase lostWord loss ++ (phrase markWord mark ++ lineEnd))
+unfoldable pub blockLine : Stated → List ℕ
+blockLine w = phrase blockWord (w .block) ++ (phrase lostWord (w .loss) ++ (phrase markWord (w .mark) ++ lineEnd))
 
 -- "choose 1 lost 12", or "choose none" for verdict 0
 unfoldable pub choiceLine : ℕ → ℕ → ℕ → List ℕ
@@ -75,7 +76,7 @@ unfoldable pub planLines : Picture → List ℕ
 planLines p =
     let ws : List Cost = weighings p in
     let c : Choice = least ws in
-    servedLine (servedWeight p) ++ (flat (map (λ w. blockLine (w .block) (w .loss) (w .mark)) ws) ++ choiceLine (c .verdict) (c .block) (c .loss))
+    servedLine (servedWeight p) ++ (flat (map (λ w. blockLine (statedOf w)) ws) ++ choiceLine (c .verdict) (c .block) (c .loss))
 
 -- 0 is a plan; any other number is a refusal, of which the number is all that is printed
 unfoldable pub listingOf : ℕ → Picture → List ℕ

@@ -54,7 +54,7 @@ fn put_served_line(text: &mut [u8], at: usize, weight: usize) -> usize
 // Puts the line of a candidate.
 fn put_block_line(text: &mut [u8], at: usize, w: Stated) -> usize
     requires { ⌜ (w .block < 10 ^ 8) × (w .loss < 10 ^ 8) × (w .mark < 10 ^ 8) × (at + 43 ≤ length (now text)) ⌝ }
-    ensures { λ r. ⌜ Texted (now (text .entry)) at (blockLine (w .block) (w .loss) (w .mark)) (now (text .exit)) r ⌝ }
+    ensures { λ r. ⌜ Texted (now (text .entry)) at (blockLine w) (now (text .exit)) r ⌝ }
 {
     let lost_at = put_phrase(text, at, b"block ", w.block);
     let mark_at = put_phrase(text, lost_at, b" lost ", w.loss);

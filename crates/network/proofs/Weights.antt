@@ -1,4 +1,4 @@
--- Served weight, loss, number of cuts and mark are what the chains say, and weights are small numbers. Assumes nothing.
+-- Served weight, loss, number of endpoints cut and mark are what the chains say, and weights are small numbers. Assumes nothing.
 use mathlib.Core.Path.{_≡_, refl, sym, subst}
 use mathlib.Core.Bool.{Bool, not, _&&_}
 use mathlib.Core.Logic.{_↔_, ⊎-elim}

@@ -1,5 +1,5 @@
--- Blocks, held, served, cut, served weight, loss, candidates: document 01, "Words". Chains are in the crate `graph`, and near is a field of
--- a slot. Assumes nothing.
+-- Blocks, held, served, cut, served weight, loss, candidates: document 01, "Words"; and the number of endpoints cut: 02, C-12. Chains are in
+-- the crate `graph`, and near is a field of a slot. Assumes nothing.
 use mathlib.Core.Bool.{Bool, true, not, _&&_}
 use mathlib.Core.List.{List}
 use Prim.Native.Nat.{ℕ, zero, suc, _+_, _*_, _/_, _≤_}
@@ -67,7 +67,7 @@ ServedWeight p held = Sum p (weightOf p) (Served p held)
 abbrev pub Loss : Picture → ℕ → ℕ → Type 0
 Loss p b = Sum p (weightOf p) (Cuts p b)
 
--- how many endpoints b cuts, each once, whatever they weigh
+-- how many endpoints b cuts (02: cabs cut), each once, whatever they weigh
 abbrev pub CutCount : Picture → ℕ → ℕ → Type 0
 CutCount p b = Sum p (λ _. 1) (Cuts p b)
 

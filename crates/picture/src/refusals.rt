@@ -46,5 +46,5 @@ pub const FOREST: u8 = 14;
 // Check: served weight, a loss or a mark is wrong.
 pub const WEIGHT: u8 = 15;
 
-// Check: verdict, block or loss is not what the sections imply.
+// Check: verdict, block or loss is not what sections and forests imply.
 pub const VERDICT: u8 = 16;

@@ -1,4 +1,4 @@
--- The sum over the endpoints that rows pick, endpoint by endpoint. Assumes nothing.
+-- The sums over the endpoints that rows pick, endpoint by endpoint. Assumes nothing.
 use mathlib.Core.Path.{_≡_, refl, sym, ap, ap₂, _∙_, subst}
 use mathlib.Core.Bool.{Bool, true, false, not, _&&_, _||_}
 use mathlib.Core.List.{List, [], map}

@@ -38,8 +38,8 @@ pub struct Lost {
     pub mark: u8,
 }
 
-// One word has both sums over endpoints: that of their weights in units of this, and below it their number, which is less. A second word in
-// that loop costs time.
+// One word has both sums over endpoints: their weights count in units of this, and what is left is their number, which stays under one unit.
+// A second word in that loop costs time.
 const SUM_UNIT: u32 = 256;
 
 // Whether an endpoint is lost, which the locations of the row serve: one that is gone served it, and none that is left (`after`) does. Most

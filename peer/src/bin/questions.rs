@@ -253,9 +253,9 @@ fn main() {
     ask_blocks(&mut table, &mut random);
     let written = table.rows.len() - asked;
     ask_ties(&mut table, &mut random);
-    let tied = table.rows.len() - asked - written;
+    let ties = table.rows.len() - asked - written;
     eprintln!(
-        "questions: {asked} of {} pictures, {written} of lists, {tied} of ties",
+        "questions: {asked} of {} pictures, {written} of lists, {ties} of ties",
         ROUNDS * SHAPES.len()
     );
     println!("unfoldable pub table : List Row\ntable =\n    {}\n    ∷ []", table.rows.join("\n    ∷ "));

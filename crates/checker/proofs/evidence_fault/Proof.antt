@@ -60,7 +60,7 @@ clean : (c : tie.Else2) → let f = formedAt c .before in 0 ≡ partsFault (star
 clean c = sym (c .if2 .left) ∙ c .before .parts-fault .ensures .0
 
 -- no part has a fault, so the numbers of endpoints cut are there
-counted : (c : tie.Else2) → let f = formedAt c .before in CutsOf (shown f) (c .before .parts-fault .last .1 .1 .1 .1 .1 .0)
+counted : (c : tie.Else2) → let f = formedAt c .before in CutsOf (shown f) (c .before .parts-fault .last .1 .1 .1 .1 .1 .0) (f .form-of .result .count)
 counted c = c .before .parts-fault .ensures .1 (c .if2 .left)
 
 judged : (c : tie.After-verdict-right) → let f = right c .before in

@@ -45,18 +45,14 @@ looked c = c .before .before .before .before
 few : (l : tie.At-loop Inv-loop μ-loop) → l .loop .sum % 256 < 255
 few l = omega (arith, l .loop .inv .picking _ (l .before .minus .ensures) .few, l .loop .inv .within, l .loop .inv .few)
 
--- a lost endpoint's weight is added
-weight-next : (c : tie.Joined1 Inv-loop μ-loop) → let l = turn (c .before) in
-    c .if1 .sum / 256 ≡ l .loop .sum / 256 + on (c .before .is-lost .result) (getD (l .before .before .args .weights .now) (l .loop .c) 0)
-weight-next c =
+-- a lost endpoint's weight is added, and it is counted
+sums-next : (c : tie.Joined1 Inv-loop μ-loop) → let l = turn (c .before) in let lost = c .before .is-lost .result in
+    (c .if1 .sum / 256 ≡ l .loop .sum / 256 + on lost (getD (l .before .before .args .weights .now) (l .loop .c) 0)) × (c .if1 .sum % 256 ≡ l .loop .sum % 256 + on lost 1)
+sums-next c =
     let f = few (turn (c .before)) in
-    ⊎-elim (λ x. added-hit _ _ (x .0 .taken) (rw (x .2) (omega (arith, f)))) (λ x. added-miss _ _ (x .0 .left) (rw (x .1))) (c .if1 .came)
-
--- and it is counted
-count-next : (c : tie.Joined1 Inv-loop μ-loop) → let l = turn (c .before) in c .if1 .sum % 256 ≡ l .loop .sum % 256 + on (c .before .is-lost .result) 1
-count-next c =
-    let f = few (turn (c .before)) in
-    ⊎-elim (λ x. added-hit _ _ (x .0 .taken) (rw (x .2) (omega (arith, f)))) (λ x. added-miss _ _ (x .0 .left) (rw (x .1))) (c .if1 .came)
+    ⊎-elim
+    (λ x. (added-hit _ _ (x .0 .taken) (rw (x .2) (omega (arith, f))), added-hit _ _ (x .0 .taken) (rw (x .2) (omega (arith, f)))))
+    (λ x. (added-miss _ _ (x .0 .left) (rw (x .1)), added-miss _ _ (x .0 .left) (rw (x .1)))) (c .if1 .came)
 
 -- a lost protected endpoint sets the mark
 mark-next : (c : tie.Joined2 Inv-loop μ-loop) → let k = looked c in let l = turn k in
@@ -121,7 +117,7 @@ loop-again c =
       small = l .inv .small;
       picking = λ before m.
           picking-next _ _ _ _ _ _ _ (l .c) _ (l .inv .picking before m) (l .inv .small .weight (l .c)) (looked c .is-lost .ensures before m)
-          (weight-next (c .before .before .before)) (count-next (c .before .before .before)) (mark-next c);
+          (sums-next (c .before .before .before) .0) (sums-next (c .before .before .before) .1) (mark-next c);
     }
 
 cast-t29 : tie.Need-cast-t29 Inv-loop μ-loop

@@ -12,7 +12,7 @@ use Rattle.network.proofs.Making.{clear-made}
 use Rattle.evidence.specs.Contents.{forestIn}
 use Rattle.checker.proofs.Nodes.{node-read}
 use Rattle.checker.proofs.Following.{Followed, followed-begun, followed-in, followed-out, Closed, closed-begun, closed-none, closed-out, closed-apart}
-use Rattle.checker.proofs.Going.{Given, given, Gone, Counted, PartAt, Inside, Sides, sides-whole, sides-less, tables-made, gone-begun, gone-ended, counted-begun, counted-ended}
+use Rattle.checker.proofs.Going.{Given, given, Gone, Counted, PartAt, Inside, Sides, sides-whole, sides-less, tables-made, cuts-none, cuts-fewer, gone-begun, gone-ended}
 use Rattle.checker.proofs.Going.{part-begun, part-node, part-link, part-counted, part-stated, part-gone}
 use borrow.Author.Needs.{needs}
 use Rattle.checker.proofs.forests.parts_fault.Statement.{statement}
@@ -93,7 +93,7 @@ check-holds c =
     let given = start (l .before) .pre in
     let p = given .0 in
     let t = tables-made (p .0) (p .1) (p .2) (p .3) (l .link-rows .ensures) (s .service-link-rows .ensures) (c .endpoint-rows .ensures) in
-    record { none = refl; gone = gone-begun t; counted = counted-begun (given .1) }
+    record { none = refl; gone = gone-begun t; counted = cuts-none (given .1) }
 
 forest-at-requires : tie.Need-forest-at-requires Inv-loop μ-loop Inv-loop2 μ-loop2 Inv-check μ-check
 forest-at-requires c κs = search needs
@@ -244,7 +244,7 @@ check-again c =
 returns : tie.Need-returns Inv-loop μ-loop Inv-loop2 μ-loop2 Inv-check μ-check
 returns c =
     let i = c .before .check .inv in
-    (i .none ∙ gone-ended (i .gone) (c .check-test .left), λ _. counted-ended (i .counted) (i .gone .tables) (c .check-test .left))
+    (i .none ∙ gone-ended (i .gone) (c .check-test .left), λ _. cuts-fewer (i .counted) (omega (arith, c .check-test .left)))
 
 returns-2 : tie.Need-returns-2 Inv-loop μ-loop Inv-loop2 μ-loop2 Inv-check μ-check
 returns-2 c =
