@@ -1,5 +1,6 @@
-//! The plain peer of the block planner: document 01 with adjacency lists and one breadth-first
-//! search a candidate. Another implementation is held against it, in results and in speed.
+//! The plain peer of the block planner: document 01 and the requests in 02, with adjacency lists and
+//! one breadth-first search a candidate. Another implementation is held against it, in results and in
+//! speed.
 //!
 //! Words are those of document 01, with origin for the office, endpoint for a cab and network for
 //! a farm. Refusals are the numbers of document 01, see [`refusals`].
