@@ -3,15 +3,18 @@
 use mathlib.Core.Path.{sym, subst}
 use mathlib.Core.Bool.{not}
 use mathlib.Core.List.{List, [], _∷_, map}
-use Prim.Native.Nat.{ℕ, zero, suc, _+_, _≤_, _<_}
+use Prim.Native.Nat.{ℕ, _≤_, _<_}
 use native.Mathlib.Omega.{arith}
+use native.Mathlib.Nat.{zero-add}
 use lib.Dec.{eqb, eqb→eq}
 use lib.ListN.{length, getD}
 use Rattle.lists.specs.Lists.{range, on, first}
-use Rattle.lists.specs.Rules.{Judged}
+use Rattle.lists.specs.Rules.{eachRules, Judged}
 use Rattle.lists.proofs.Tests.{eq-T}
 use Rattle.lists.proofs.Faults.{judge-none, Numbered}
-use Rattle.lists.proofs.Rules.{right-then, judged-then}
+use Rattle.lists.proofs.Rules.{right-then, judged-then, each-judged, each-numbered}
+use Rattle.lists.proofs.Ranges.{length-range}
+use Rattle.lists.proofs.Picks.{getD-range}
 use Rattle.picture.specs.Layout.{Edition, editionOf}
 use Rattle.picture.specs.Picture.{Picture, pictureOf}
 use Rattle.picture.proofs.Accepted.{picture-judged, numbered}
@@ -30,32 +33,32 @@ use Rattle.evidence.proofs.Judging.{forestTest, numbersTest, test-numbe
 
 -- ---- the sections
 
+module _ (e : Edition) (p : Picture) (ev : List ℕ) where
+  section-numbered : (i : ℕ) → Numbered (sectionRules e p ev i)
+  unfolding sectionRules
+  section-numbered i = (λ z. absurd (omega arith), (λ z. absurd (omega arith), tt))
+
+  pub sections-numbered : (is : List ℕ) → Numbered (eachRules (sectionRules e p ev) is)
+  sections-numbered = each-numbered (sectionRules e p ev) section-numbered
+
 module _ {p : Picture} (n : Named p) (e : Edition) (ev : List ℕ) (marks : (i : ℕ) → i < length (candidates p) → sectionIn e (slotCount p) ev i .mark ≤ 1) where
-  section-judged : (i : ℕ) → i < length (candidates p) → Judged (sectionRules e p ev i 1) (sectionFault e p ev (weighings p) i)
+  section-judged : (i : ℕ) → i < length (candidates p) → Judged (sectionRules e p ev i) (sectionFault e p ev (weighings p) i)
   unfolding sectionRules sectionFault forestTest numbersTest weighed
   section-judged i h =
       let b = getD (candidates p) i 0 in
       let w = weighed p b in
-      subst (λ (x : Cost). Judged (sectionRules e p ev i 1) (first (on (not (forestTest e p ev i x)) 14 ∷ on (not (numbersTest e p ev i x)) 15 ∷ []))) (sym (weighing-at p i h))
+      subst (λ (x : Cost). Judged (sectionRules e p ev i) (first (on (not (forestTest e p ev i x)) 14 ∷ on (not (numbersTest e p ev i x)) 15 ∷ []))) (sym (weighing-at p i h))
       (right-then _ _ (forestTest e p ev i w) _ (λ z. absurd (omega arith)) (right-kept p _ _) (kept-right p _ _)
       (λ _. right-then _ _ (numbersTest e p ev i w) [] (λ z. absurd (omega arith))
       (λ t. let s = test-numbers e p ev i w t in right-numbers n e ev i b (s .0) (s .1))
       (λ r. let s = numbers-right n e ev i b (marks i h) r in numbers-test e p ev i w (s .0) (s .1))
       (λ _. judge-none)))
 
-  sections-judged : (i k : ℕ) → i + k ≤ length (candidates p) → Judged (sectionRules e p ev i k) (first (map (sectionFault e p ev (weighings p)) (range i k)))
-  unfolding sectionRules range
-  sections-judged i zero h = judge-none
-  sections-judged i (suc k) h =
-      judged-then _ (section-judged i (omega arith)) (λ z. absurd (omega arith), (λ z. absurd (omega arith), tt)) (λ _. sections-judged (suc i) k (omega arith))
-
-  every-judged : Judged (sectionRules e p ev 0 (length (candidates p))) (first (map (sectionFault e p ev (weighings p)) (range 0 (length (weighings p)))))
-  every-judged = rw weighings-length (sections-judged 0 (length (candidates p)) (omega arith))
-
-pub sections-numbered : (e : Edition) (p : Picture) (ev : List ℕ) (i k : ℕ) → Numbered (sectionRules e p ev i k)
-unfolding sectionRules
-sections-numbered e p ev i zero = tt
-sections-numbered e p ev i (suc k) = (λ z. absurd (omega arith), (λ z. absurd (omega arith), sections-numbered e p ev (suc i) k))
+  sections-judged : Judged (eachRules (sectionRules e p ev) (range 0 (length (candidates p)))) (first (map (sectionFault e p ev (weighings p)) (range 0 (length (weighings p)))))
+  sections-judged =
+      rw weighings-length
+      (each-judged (sectionRules e p ev) 0 (section-numbered e p ev) (sectionFault e p ev (weighings p)) (range 0 (length (candidates p)))
+      (λ i h. let below : i < length (candidates p) = omega (arith, h, length-range 0 (length (candidates p))) in rw (getD-range 0 0 (length (candidates p)) i below, zero-add i) (section-judged i below)))
 
 -- ---- the check
 
@@ -70,5 +73,5 @@ check-judged bs ev =
     right-then _ _ (formRight e p ev) _ (λ z. absurd (omega arith)) (right-form e p ev) (form-right e p ev)
     (λ f. right-then _ _ (forestRight p (isHeld p) (firstForest e (slotCount p) ev)) _ (λ z. absurd (omega arith)) (right-kept p _ _) (kept-right p _ _)
     (λ _. right-then _ _ (eqb (headIn ev .served) (servedWeight p)) _ (λ z. absurd (omega arith)) (λ t. right-served n _ (eqb→eq _ _ t)) (λ s. eq-T _ _ (served-right n _ s))
-    (λ _. judged-then _ (every-judged n e ev (f .marks)) (sections-numbered e p ev 0 (length (candidates p)))
+    (λ _. judged-then _ (sections-judged n e ev (f .marks)) (sections-numbered e p ev (range 0 (length (candidates p))))
     (λ _. right-then _ _ (verdictRight ev (weighings p)) [] (λ z. absurd (omega arith)) (right-verdict n (candidate-below bs z) ev) (verdict-right n (candidate-below bs z) ev) (λ _. judge-none))))))

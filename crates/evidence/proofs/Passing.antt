@@ -1,13 +1,16 @@
 -- Evidence passes the check exactly where it keeps the rules, and the rules as a record. Assumes nothing.
-use mathlib.Core.Path.{_≡_, subst}
+use mathlib.Core.Path.{_≡_}
 use mathlib.Core.List.{List}
-use Prim.Native.Nat.{ℕ, zero, suc, _+_, _≤_, _<_}
+use Prim.Native.Nat.{ℕ, _<_}
 use native.Mathlib.Omega.{arith}
-use native.Mathlib.Decide.{ℕ-discrete}
+use native.Mathlib.Nat.{zero-add}
 use lib.ListN.{length, getD}
-use Rattle.lists.specs.Rules.{Rule, AllHold, none, more}
+use Rattle.lists.specs.Lists.{range}
+use Rattle.lists.specs.Rules.{Rule, eachRules, AllHold, none, more}
 use Rattle.lists.proofs.Faults.{Numbered, judged-all, all-judged}
-use Rattle.lists.proofs.Rules.{numbered-both, hold-one, hold-left, hold-right, hold-both}
+use Rattle.lists.proofs.Rules.{numbered-both, hold-one, hold-left, hold-right, hold-both, hold-each, each-hold}
+use Rattle.lists.proofs.Ranges.{length-range}
+use Rattle.lists.proofs.Picks.{getD-range}
 use Rattle.graph.specs.Kept.{ForestKept}
 use Rattle.picture.specs.Layout.{Edition, editionOf}
 use Rattle.picture.specs.Picture.{Picture, pictureOf}
@@ -21,6 +24,10 @@ use Rattle.evidence.specs.Checks.{checkFault}
 use Rattle.evidence.specs.Rules.{Form, SectionForest, SectionCost, Verdict, sectionRules, evidenceRulesWith, checkRules}
 use Rattle.evidence.proofs.Judged.{check-judged, sections-numbered}
 
+-- the rules of all sections
+abbrev sections : Edition → Picture → List ℕ → List Rule
+sections e p ev = eachRules (sectionRules e p ev) (range 0 (length (candidates p)))
+
 -- ---- the check passes exactly where every rule holds
 
 module _ (bs ev : List ℕ) where
@@ -29,7 +36,7 @@ module _ (bs ev : List ℕ) where
   check-numbered =
       let p = pictureOf bs in
       numbered-both (rules bs) _ (numbered bs)
-      (λ z. absurd (omega arith), (λ z. absurd (omega arith), (λ z. absurd (omega arith), numbered-both (sectionRules (editionOf bs) p ev 0 (length (candidates p))) _ (sections-numbered (editionOf bs) p ev 0 (length (candidates p))) (λ z. absurd (omega arith), tt))))
+      (λ z. absurd (omega arith), (λ z. absurd (omega arith), (λ z. absurd (omega arith), numbered-both (sections (editionOf bs) p ev) _ (sections-numbered (editionOf bs) p ev _) (λ z. absurd (omega arith), tt))))
 
   pub check-holds : checkFault bs ev ≡ 0 → AllHold (checkRules bs ev)
   check-holds z = judged-all (check-judged bs ev) check-numbered z
@@ -54,36 +61,34 @@ pub record Passes (bs ev : List ℕ) : Type 0 where
   pub verdict : Verdict (pictureOf bs) (headIn ev .verdict) (headIn ev .block) (headIn ev .loss)
 
 module _ (e : Edition) (p : Picture) (ev : List ℕ) where
-  holds-section : (i k : ℕ) → AllHold (sectionRules e p ev i k) → (j : ℕ) → i ≤ j → j < i + k → Section e p ev j (getD (candidates p) j 0)
+  holds-section : AllHold (sections e p ev) → (i : ℕ) → i < length (candidates p) → Section e p ev i (getD (candidates p) i 0)
   unfolding sectionRules
-  holds-section i zero a j l h = absurd (omega arith)
-  holds-section i (suc k) (more f (more n a)) j l h = go (ℕ-discrete i j) (λ s. holds-section (suc i) k a j s (omega arith))
+  holds-section a i h =
+      by (rw (getD-range 0 0 (length (candidates p)) i h, zero-add i) at (hold-each (sectionRules e p ev) 0 (range 0 (length (candidates p))) a i (rw length-range h)))
     where
-      go : Dec (i ≡ j) → (suc i ≤ j → Section e p ev j (getD (candidates p) j 0)) → Section e p ev j (getD (candidates p) j 0)
-      go (yes q) _ = subst (λ (x : ℕ). Section e p ev x (getD (candidates p) x 0)) q (record { forest = f; numbers = n })
-      go (no q) later = later (omega arith)
+      by : AllHold (sectionRules e p ev i) → Section e p ev i (getD (candidates p) i 0)
+      by (more f (more n none)) = record { forest = f; numbers = n }
 
-  section-holds : (i k : ℕ) → ((j : ℕ) → i ≤ j → j < i + k → Section e p ev j (getD (candidates p) j 0)) → AllHold (sectionRules e p ev i k)
+  section-holds : ((i : ℕ) → i < length (candidates p) → Section e p ev i (getD (candidates p) i 0)) → AllHold (sections e p ev)
   unfolding sectionRules
-  section-holds i zero s = none
-  section-holds i (suc k) s =
-      let here = s i (omega arith) (omega arith) in
-      more (here .forest) (more (here .numbers) (section-holds (suc i) k (λ j l h. s j (omega arith) (omega arith))))
+  section-holds s =
+      each-hold (sectionRules e p ev) 0 (range 0 (length (candidates p)))
+      (λ i h.
+      let below : i < length (candidates p) = omega (arith, h, length-range 0 (length (candidates p))) in
+      rw (getD-range 0 0 (length (candidates p)) i below, zero-add i) (more (s i below .forest) (more (s i below .numbers) none)))
 
 module _ (bs ev : List ℕ) where
-  sections : List Rule
-  sections = sectionRules (editionOf bs) (pictureOf bs) ev 0 (length (candidates (pictureOf bs)))
-
   evidence-passes : pictureFault bs ≡ 0 → AllHold (evidenceRulesWith (editionOf bs) (pictureOf bs) ev) → Passes bs ev
-  unfolding evidenceRulesWith sections
+  unfolding evidenceRulesWith
   evidence-passes z (more f (more t (more w r))) =
+      let each = sections (editionOf bs) (pictureOf bs) ev in
       record {
         accepted = z;
         form = f;
         forest = t;
         served = w;
-        sections = λ i h. holds-section (editionOf bs) (pictureOf bs) ev 0 (length (candidates (pictureOf bs))) (hold-left sections _ r) i (omega arith) (omega arith);
-        verdict = hold-one (hold-right sections _ r);
+        sections = holds-section (editionOf bs) (pictureOf bs) ev (hold-left each _ r);
+        verdict = hold-one (hold-right each _ r);
       }
 
   holds-passes : AllHold (checkRules bs ev) → Passes bs ev
@@ -95,7 +100,7 @@ module _ (bs ev : List ℕ) where
   passes-holds k =
       hold-both (judged-all (picture-judged bs) (numbered bs) (k .accepted))
       (more (k .form) (more (k .forest) (more (k .served)
-      (hold-both (section-holds (editionOf bs) (pictureOf bs) ev 0 (length (candidates (pictureOf bs))) (λ j _ h. k .sections j (omega arith))) (more (k .verdict) none)))))
+      (hold-both (section-holds (editionOf bs) (pictureOf bs) ev (k .sections)) (more (k .verdict) none)))))
 
   pub check-passes : checkFault bs ev ≡ 0 → Passes bs ev
   check-passes z = holds-passes (check-holds bs ev z)

@@ -1,9 +1,10 @@
 -- The rules of evidence as propositions, in the order of document 01. Assumes nothing.
 use mathlib.Core.List.{List, [], _∷_, _++_}
 use mathlib.Core.Path.{_≡_}
-use Prim.Native.Nat.{ℕ, zero, suc, _≤_, _<_}
+use Prim.Native.Nat.{ℕ, _≤_, _<_}
 use lib.ListN.{length, getD}
-use Rattle.lists.specs.Rules.{Rule}
+use Rattle.lists.specs.Lists.{range}
+use Rattle.lists.specs.Rules.{Rule, eachRules}
 use Rattle.graph.specs.Kept.{ForestKept}
 use Rattle.picture.specs.Layout.{Edition, editionOf}
 use Rattle.picture.specs.Picture.{Picture, pictureOf}
@@ -52,13 +53,12 @@ pub data Verdict (p : Picture) : ℕ → ℕ → ℕ → Type 0 where
 -- candidate 14 and 15, then 16"
 
 module _ (e : Edition) (p : Picture) (ev : List ℕ) where
-  -- those of the k sections from section i on
-  unfoldable pub sectionRules : ℕ → ℕ → List Rule
-  sectionRules i zero = []
-  sectionRules i (suc k) =
+  -- those of section i
+  unfoldable pub sectionRules : ℕ → List Rule
+  sectionRules i =
       record { number = 14; holds = SectionForest e p ev i (getD (candidates p) i 0) }
       ∷ record { number = 15; holds = SectionCost e p ev i (getD (candidates p) i 0) }
-      ∷ sectionRules (suc i) k
+      ∷ []
 
   -- those of the whole evidence
   unfoldable pub evidenceRulesWith : List Rule
@@ -66,7 +66,7 @@ module _ (e : Edition) (p : Picture) (ev : List ℕ) where
       record { number = 13; holds = Form e p ev }
       ∷ record { number = 14; holds = ForestKept (joins (p .links)) (isHeld p) (slotCount p) (firstForest e (slotCount p) ev) }
       ∷ record { number = 15; holds = ServedWeight p (isHeld p) (headIn ev .served) }
-      ∷ (sectionRules 0 (length (candidates p)) ++ (record { number = 16; holds = Verdict p (headIn ev .verdict) (headIn ev .block) (headIn ev .loss) } ∷ []))
+      ∷ (eachRules sectionRules (range 0 (length (candidates p))) ++ (record { number = 16; holds = Verdict p (headIn ev .verdict) (headIn ev .block) (headIn ev .loss) } ∷ []))
 
 -- the picture's, and then those of the evidence
 unfoldable pub checkRules : List ℕ → List ℕ → List Rule

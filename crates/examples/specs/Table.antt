@@ -83,6 +83,27 @@ table =
     -- a picture that the header makes longer than it is, and a fill bit that is set
     ∷ record { question = read (slotsOnly 0x18 240 89); says = 1 ∷ [] }
     ∷ record { question = read (set caseA 26 0x09); says = 7 ∷ [] }
+    -- what a service link names (02, C-14): the first one's location 5 (17) or endpoint 0 (18), the last one's endpoint 3; both of one link
+    -- (17), the endpoint of one and the location of the next (18), and the other way round (17); after the end 5 of a link (6), before a fill bit
+    ∷ record { question = read (set caseA 21 0x14); says = 17 ∷ [] }
+    ∷ record { question = read (set caseA 22 0x00); says = 18 ∷ [] }
+    ∷ record { question = read (set caseA 26 0x0C); says = 18 ∷ [] }
+    ∷ record { question = read (set (set caseA 21 0x14) 22 0x00); says = 17 ∷ [] }
+    ∷ record { question = read (set (set caseA 22 0x00) 23 0x14); says = 18 ∷ [] }
+    ∷ record { question = read (set (set caseA 21 0x14) 24 0x00); says = 17 ∷ [] }
+    ∷ record { question = read (set (set caseA 20 0x14) 21 0x14); says = 6 ∷ [] }
+    ∷ record { question = read (set (set caseA 20 0x14) 22 0x00); says = 6 ∷ [] }
+    ∷ record { question = read (set (set caseA 21 0x14) 26 0x09); says = 17 ∷ [] }
+    -- one slot, no endpoint, and a service link 0-1 (18) or 2-1 (17)
+    ∷ record { question = read (0x11 ∷ 1 ∷ 0 ∷ 0 ∷ 0 ∷ 0 ∷ 1 ∷ 0x00 ∷ 0x00 ∷ 0x20 ∷ []); says = 18 ∷ [] }
+    ∷ record { question = read (0x11 ∷ 1 ∷ 0 ∷ 0 ∷ 0 ∷ 0 ∷ 1 ∷ 0x00 ∷ 0x40 ∷ 0x20 ∷ []); says = 17 ∷ [] }
+    -- the other calls say the same, the program too ("refused 17", "refused 18")
+    ∷ record { question = weigh (set caseA 21 0x14) 2; says = 17 ∷ [] }
+    ∷ record { question = choose (set caseA 22 0x00) (replicate 3 0xEE) 3; says = 18 ∷ replicate 3 0xEE }
+    ∷ record { question = check (set caseA 21 0x14) []; says = 17 ∷ [] }
+    ∷ record { question = act Evict (set caseA 22 0x00) 0; says = 18 ∷ set caseA 22 0x00 }
+    ∷ record { question = list (set caseA 21 0x14); says = 114 ∷ 101 ∷ 102 ∷ 117 ∷ 115 ∷ 101 ∷ 100 ∷ 32 ∷ 49 ∷ 55 ∷ 10 ∷ [] }
+    ∷ record { question = list (set caseA 22 0x00); says = 114 ∷ 101 ∷ 102 ∷ 117 ∷ 115 ∷ 101 ∷ 100 ∷ 32 ∷ 49 ∷ 56 ∷ 10 ∷ [] }
     -- weigh: served weight, and loss and mark of each block
     ∷ record { question = weigh caseA 0; says = 0 ∷ 42 ∷ 30 ∷ 1 ∷ [] }
     ∷ record { question = weigh caseA 1; says = 0 ∷ 42 ∷ 12 ∷ 0 ∷ [] }
@@ -193,12 +214,16 @@ table =
     ∷ record { question = write (listsOf (pictureOf caseF)) (replicate 25 0xFF); says = 0 ∷ 25 ∷ caseF }
     ∷ record { question = write (listsOf (pictureOf caseK)) (replicate 27 0xFF); says = 0 ∷ 27 ∷ caseK }
     ∷ record { question = write (listsOf (pictureOf caseM)) (replicate 17 0xFF); says = 0 ∷ 17 ∷ caseM }
-    -- and the lists of what the reader refuses get the reader's number: β 3 with n 4, D 201, slot 1 state 3, a link 0 to 5, an endpoint 0
+    -- and the lists of what the reader refuses get the reader's number: β 3 with n 4, D 201, slot 1 state 3, a link 0 to 5, a service link's
+    -- location 5 or endpoint 0, and both, of one or of two
     ∷ record { question = write (listsOf (pictureOf (set caseA 0 0x13))) (replicate 27 0xEE); says = 3 ∷ replicate 27 0xEE }
     ∷ record { question = write (listsOf (pictureOf (set caseA 3 201))) (replicate 27 0xEE); says = 4 ∷ replicate 27 0xEE }
     ∷ record { question = write (listsOf (pictureOf (set caseA 7 0xE4))) (replicate 27 0xEE); says = 5 ∷ replicate 27 0xEE }
     ∷ record { question = write (listsOf (pictureOf (set caseA 14 0x14))) (replicate 27 0xEE); says = 6 ∷ replicate 27 0xEE }
-    ∷ record { question = write (listsOf (pictureOf (set caseA 22 0x00))) (replicate 27 0xEE); says = 6 ∷ replicate 27 0xEE }
+    ∷ record { question = write (listsOf (pictureOf (set caseA 21 0x14))) (replicate 27 0xEE); says = 17 ∷ replicate 27 0xEE }
+    ∷ record { question = write (listsOf (pictureOf (set caseA 22 0x00))) (replicate 27 0xEE); says = 18 ∷ replicate 27 0xEE }
+    ∷ record { question = write (listsOf (pictureOf (set (set caseA 21 0x14) 22 0x00))) (replicate 27 0xEE); says = 17 ∷ replicate 27 0xEE }
+    ∷ record { question = write (listsOf (pictureOf (set (set caseA 22 0x00) 23 0x14))) (replicate 27 0xEE); says = 18 ∷ replicate 27 0xEE }
     -- columns of unequal length, no lists at all, and values that no field has room for
     ∷ record { question = write (listsWith (true ∷ true ∷ true ∷ []) (true ∷ false ∷ [])) (replicate 27 0xEE); says = 3 ∷ replicate 27 0xEE }
     ∷ record { question = write (listsWith (true ∷ true ∷ true ∷ true ∷ []) (true ∷ false ∷ true ∷ [])) (replicate 27 0xEE); says = 4 ∷ replicate 27 0xEE }
@@ -206,6 +231,8 @@ table =
     ∷ record { question = write (handed 0x11 0 (0 ∷ []) (true ∷ []) [] [] [] []) (replicate 8 0xEE); says = 3 ∷ replicate 8 0xEE }
     ∷ record { question = write (handed 1 0 (4 ∷ []) (true ∷ []) [] [] [] []) (replicate 8 0xEE); says = 5 ∷ replicate 8 0xEE }
     ∷ record { question = write (handed 1 0 (0 ∷ []) (true ∷ []) [] [] ((0x100 ∷ 0 ∷ []) ∷ []) []) (replicate 10 0xEE); says = 6 ∷ replicate 10 0xEE }
+    ∷ record { question = write (handed 1 0 (0 ∷ []) (true ∷ []) (5 ∷ []) (true ∷ []) [] ((0x101 ∷ 1 ∷ []) ∷ [])) (replicate 12 0xEE); says = 17 ∷ replicate 12 0xEE }
+    ∷ record { question = write (handed 1 0 (0 ∷ []) (true ∷ []) (5 ∷ []) (true ∷ []) [] ((1 ∷ 0x101 ∷ []) ∷ [])) (replicate 12 0xEE); says = 18 ∷ replicate 12 0xEE }
     -- a short buffer comes last
     ∷ record { question = write (handed 1 0 (3 ∷ []) (true ∷ []) [] [] [] []) []; says = 5 ∷ [] }
     ∷ record { question = write (handed 1 0 (0 ∷ []) (true ∷ []) [] [] [] []) []; says = 9 ∷ [] }

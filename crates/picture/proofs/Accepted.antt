@@ -13,10 +13,10 @@ use Rattle.picture.specs.declared.Header.{Header}
 use Rattle.picture.specs.Layout.{Edition, editionOf, headerWidths, fieldIn, leastBytes, sizeOf}
 use Rattle.picture.specs.Picture.{Picture, headerOf, pictureOf}
 use Rattle.picture.specs.Faults.{sizesRight, countsRight, endRight, bodyFaults, faultsWith, pictureFault}
-use Rattle.picture.specs.Rules.{listRules, rulesWith, rules}
+use Rattle.picture.specs.Rules.{rulesWith, rules}
 use Rattle.picture.proofs.Starts.{slots-length, rounded}
 use Rattle.picture.proofs.Kept.{Kept, holds-kept, kept-holds}
-use Rattle.picture.proofs.Judging.{right-sizes, sizes-right, right-counts, counts-right, lists-judged, right-ends, ends-right}
+use Rattle.picture.proofs.Judging.{right-sizes, sizes-right, right-counts, counts-right, lists-judged, lists-numbered, right-ends, ends-right}
 
 module _ (bs : List ℕ) where
   e : Edition
@@ -41,10 +41,10 @@ module _ (bs : List ℕ) where
 
   -- no number of the layout is 0
   pub numbered : Numbered (rules bs)
-  unfolding rules rulesWith listRules
+  unfolding rules rulesWith
   numbered = (
     λ z. absurd (omega arith),
-    (λ z. absurd (omega arith), (λ z. absurd (omega arith), (λ z. absurd (omega arith), (λ z. absurd (omega arith), (λ z. absurd (omega arith), (λ z. absurd (omega arith), (λ z. absurd (omega arith), (λ z. absurd (omega arith), tt)))))))),
+    (λ z. absurd (omega arith), (λ z. absurd (omega arith), (λ z. absurd (omega arith), (λ z. absurd (omega arith), lists-numbered (headerOf bs) (pictureOf bs) _ (λ z. absurd (omega arith), tt))))),
   )
 
   -- accepted exactly where every rule of the layout holds

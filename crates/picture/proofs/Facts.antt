@@ -6,9 +6,10 @@ use lib.ListN.{length}
 use Rattle.picture.specs.declared.Header.{Header}
 use Rattle.picture.specs.Layout.{edition1}
 use Rattle.picture.specs.Picture.{Picture, pictureOf, pictureWith}
-use Rattle.picture.specs.Rules.{Sizes, Counts, Links, ServiceLinks}
+use Rattle.picture.specs.Rules.{Sizes, Counts, Links}
 use Rattle.picture.specs.Inner.{Read, Limited}
 use Rattle.picture.proofs.Starts.{slots-length, endpoints-length, links-length, services-length}
+use Rattle.picture.proofs.Kept.{ServiceLinks}
 use Rattle.picture.proofs.Accepted.{accepted-kept}
 
 module _ (bs : List ℕ) (h : Header) (r : Read bs h) where

@@ -2,24 +2,25 @@
 use mathlib.Core.Path.{_≡_, ap, _∙_}
 use mathlib.Core.Bool.{not, _||_}
 use mathlib.Core.Logic.{_≢_}
-use mathlib.Core.List.{List, _++_}
+use mathlib.Core.List.{List, [], _++_, map}
 use Prim.Native.Nat.{ℕ, zero, suc, _+_, _-_, _*_, _/_, _%_, _≤_, _<_, zero-le, suc-le-suc}
 use native.Mathlib.Omega.{arith}
-use lib.Dec.{T, eqb, leb, ltb, leb→le, eqb→eq, nltb→le}
+use lib.Dec.{T, eqb, leb, ltb, leb→le, eqb→eq, ltb→lt, nltb→le}
 use borrow.Author.Tests.{le-leb, le-ltb, eq-eqb, ne-eqb}
 use lib.ListN.{length, getD}
 use Rattle.bits.specs.Bits.{bitAt, fieldAt}
 use Rattle.bits.proofs.Reading.{fieldAt-zeros, zeros-fieldAt}
 use Rattle.lists.specs.Lists.{on, first, item}
-use Rattle.lists.specs.Rules.{Rule, Judged}
+use Rattle.lists.specs.Rules.{Rule, eachRules, Judged}
 use Rattle.lists.proofs.Tests.{and-T, not-or}
-use Rattle.lists.proofs.Faults.{on-zero, on-told, judge-each}
+use Rattle.lists.proofs.Faults.{on-zero, on-told, judge-test, judge-each, judge-none, Numbered}
+use Rattle.lists.proofs.Rules.{judged-then, numbered-both, each-judged, each-numbered}
 use Rattle.picture.specs.declared.Header.{Header}
 use Rattle.picture.specs.declared.Link.{Link}
 use Rattle.picture.specs.Layout.{Edition, edition1, blockSizeMax, blocksMax, endpointsMax, linksMax, stateMax, endAt, sizeOf}
 use Rattle.picture.specs.Picture.{Picture, slotOf}
 use Rattle.picture.specs.Faults.{sizesRight, countsRight, stateFault, linkFault, serviceLinkFault, listFaults, endRight}
-use Rattle.picture.specs.Rules.{Sizes, Counts, States, Ends, noLink, listRules}
+use Rattle.picture.specs.Rules.{Sizes, Counts, States, Ends, noLink, serviceLinkRules, listRules}
 use Rattle.picture.specs.Inner.{Limited}
 
 -- ---- the header
@@ -81,24 +82,34 @@ pub link-right : (n : ℕ) (l : Link) → l .from ≤ n → l .to ≤ n → link
 unfolding linkFault on
 link-right n l f t = rw (le-ltb _ _ f, le-ltb _ _ t)
 
-pub right-service : (n d : ℕ) (l : Link) → serviceLinkFault n d l ≡ 0 → (l .from ≤ n) × (1 ≤ l .to) × (l .to ≤ d)
-unfolding serviceLinkFault
-right-service n d l e =
-    let t = not-or (ltb n (l .from)) (eqb (l .to) 0 || ltb d (l .to)) (on-zero (ltb n (l .from) || (eqb (l .to) 0 || ltb d (l .to))) 5 e) in
-    let u = not-or (eqb (l .to) 0) (ltb d (l .to)) (t .1) in
-    (nltb→le n (l .from) (t .0), above (l .to) (u .0), nltb→le d (l .to) (u .1))
-  where
-    above : (k : ℕ) → T (not (eqb k 0)) → 1 ≤ k
-    above zero t = absurd t
-    above (suc k) t = suc-le-suc zero-le
+-- an endpoint is one of 1 to d exactly where it is neither 0 nor above d
+right-endpoint : (d k : ℕ) → T (not (eqb k 0 || ltb d k)) → (1 ≤ k) × (k ≤ d)
+right-endpoint d zero t = absurd t
+right-endpoint d (suc k) t = (suc-le-suc zero-le, nltb→le d (suc k) (not-or (eqb (suc k) 0) (ltb d (suc k)) t .1))
 
-pub service-right : (n d : ℕ) (l : Link) → l .from ≤ n → 1 ≤ l .to → l .to ≤ d → serviceLinkFault n d l ≡ 0
-unfolding serviceLinkFault on
-service-right n d l f s t =
-    let some : l .to ≢ 0 = λ z. absurd (omega arith) in
-    rw (le-ltb _ _ f, ne-eqb _ _ some, le-ltb _ _ t)
+wrong-endpoint : (d k : ℕ) → T (eqb k 0 || ltb d k) → ¬ ((1 ≤ k) × (k ≤ d))
+wrong-endpoint d k t r =
+    let some : k ≢ 0 = λ z. absurd (omega (arith, r .0)) in
+    absurd (rw (ne-eqb _ _ some, le-ltb _ _ (r .1)) at t)
 
--- each list has one number for its faults
+-- the two rules of one service link, and of all
+service-judged : (n d : ℕ) (l : Link) → Judged (serviceLinkRules n d l) (serviceLinkFault n d l)
+unfolding serviceLinkRules serviceLinkFault
+service-judged n d l =
+    judge-test _ _ (ltb n (l .from)) _ (λ z. absurd (omega arith)) (nltb→le n (l .from)) (λ t m. absurd (omega (arith, ltb→lt n (l .from) t)))
+    (judge-test _ _ (eqb (l .to) 0 || ltb d (l .to)) [] (λ z. absurd (omega arith)) (right-endpoint d (l .to)) (wrong-endpoint d (l .to)) judge-none)
+
+service-numbered : (n d : ℕ) (l : Link) → Numbered (serviceLinkRules n d l)
+unfolding serviceLinkRules
+service-numbered n d l = (λ z. absurd (omega arith), (λ z. absurd (omega arith), tt))
+
+services-numbered : (n d : ℕ) (ls : List Link) → Numbered (eachRules (serviceLinkRules n d) ls)
+services-numbered n d = each-numbered (serviceLinkRules n d) (service-numbered n d)
+
+services-judged : (n d : ℕ) (ls : List Link) → Judged (eachRules (serviceLinkRules n d) ls) (first (map (serviceLinkFault n d) ls))
+services-judged n d ls = each-judged (serviceLinkRules n d) noLink (service-numbered n d) (serviceLinkFault n d) ls (λ i h. service-judged n d (getD ls i noLink))
+
+-- states and links have one number each for their faults
 state-told : (k : ℕ) → stateFault k ≢ 0 → stateFault k ≡ 5
 unfolding stateFault
 state-told k = on-told _ 5
@@ -106,10 +117,6 @@ state-told k = on-told _ 5
 link-told : (n : ℕ) (l : Link) → linkFault n l ≢ 0 → linkFault n l ≡ 6
 unfolding linkFault
 link-told n l = on-told _ 6
-
-service-told : (n d : ℕ) (l : Link) → serviceLinkFault n d l ≢ 0 → serviceLinkFault n d l ≡ 6
-unfolding serviceLinkFault
-service-told n d l = on-told _ 6
 
 module _ (h : Header) (p : Picture) (long : length (p .slots) ≡ h .slots) where
   states-judged : ((i : ℕ) → i < length (p .slots) → stateFault (getD (p .slots) i (slotOf p 0) .state) ≡ 0) → States (h .slots) p
@@ -132,9 +139,15 @@ module _ (h : Header) (p : Picture) (long : length (p .slots) ≡ h .slots) wher
       (judge-each _ _ (linkFault (h .slots)) noLink (p .links) _
       (λ c. record { from = λ i m. right-link _ _ (c i m) .0; to = λ i m. right-link _ _ (c i m) .1 })
       (λ r i m. link-right _ _ (r .from i m) (r .to i m)) (link-told (h .slots))
-      (judge-each _ _ (serviceLinkFault (h .slots) (h .endpoints)) noLink (p .serviceLinks) _
-      (λ c. record { location = λ i m. right-service _ _ _ (c i m) .0; endpoint-some = λ i m. right-service _ _ _ (c i m) .1; endpoint-most = λ i m. right-service _ _ _ (c i m) .2 })
-      (λ r i m. service-right _ _ _ (r .location i m) (r .endpoint-some i m) (r .endpoint-most i m)) (service-told (h .slots) (h .endpoints)) j))
+      (judged-then l (services-judged (h .slots) (h .endpoints) (p .serviceLinks)) (services-numbered (h .slots) (h .endpoints) (p .serviceLinks)) (λ _. j)))
+
+-- no number of the lists is 0
+pub lists-numbered : (h : Header) (p : Picture) (rs : List Rule) → Numbered rs → Numbered (listRules h p ++ rs)
+unfolding listRules
+lists-numbered h p rs m = (
+  λ z. absurd (omega arith),
+  (λ z. absurd (omega arith), numbered-both (eachRules (serviceLinkRules (h .slots) (h .endpoints)) (p .serviceLinks)) rs (services-numbered (h .slots) (h .endpoints) (p .serviceLinks)) m),
+)
 
 -- ---- the end
 

@@ -1,12 +1,45 @@
 -- What accepted bytes keep, rule by rule: the list of rules as a record with a name for each. Assumes nothing.
 use mathlib.Core.Path.{_≡_}
-use mathlib.Core.List.{List}
-use Prim.Native.Nat.{ℕ, _≤_}
-use lib.ListN.{length}
-use Rattle.lists.specs.Rules.{AllHold, more, none}
+use mathlib.Core.List.{List, _++_}
+use Prim.Native.Nat.{ℕ, _≤_, _<_}
+use lib.ListN.{length, getD}
+use Rattle.lists.specs.Rules.{Rule, eachRules, AllHold, more, none}
+use Rattle.lists.proofs.Rules.{hold-one, hold-left, hold-right, hold-both, hold-each, each-hold}
+use Rattle.picture.specs.declared.Link.{Link}
 use Rattle.picture.specs.Layout.{editionOf, headerWidths, fieldIn, leastBytes, sizeOf}
-use Rattle.picture.specs.Picture.{headerOf, pictureOf}
-use Rattle.picture.specs.Rules.{Sizes, Counts, States, Links, ServiceLinks, Ends, listRules, rulesWith, rules}
+use Rattle.picture.specs.Picture.{Picture, headerOf, pictureOf}
+use Rattle.picture.specs.Rules.{Sizes, Counts, States, noLink, Links, serviceLinkRules, Ends, listRules, rulesWith, rules}
+
+-- the rules of all service links
+pub record ServiceLinks (n d : ℕ) (p : Picture) : Type 0 where
+  pub location : (i : ℕ) → i < length (p .serviceLinks) → getD (p .serviceLinks) i noLink .from ≤ n
+  pub endpoint-some : (i : ℕ) → i < length (p .serviceLinks) → 1 ≤ getD (p .serviceLinks) i noLink .to
+  pub endpoint-most : (i : ℕ) → i < length (p .serviceLinks) → getD (p .serviceLinks) i noLink .to ≤ d
+
+module _ (n d : ℕ) (p : Picture) (rs : List Rule) where
+  abbrev of-each : List Rule
+  of-each = eachRules (serviceLinkRules n d) (p .serviceLinks)
+
+  -- by name, before others
+  pub holds-services : AllHold (of-each ++ rs) → ServiceLinks n d p × AllHold rs
+  unfolding serviceLinkRules
+  holds-services a = (
+    let at = hold-each (serviceLinkRules n d) noLink (p .serviceLinks) (hold-left of-each rs a) in
+        record { location = λ i h. location (at i h); endpoint-some = λ i h. endpoint (at i h) .0; endpoint-most = λ i h. endpoint (at i h) .1 },
+    hold-right of-each rs a,
+  )
+    where
+      location : {l : Link} → AllHold (serviceLinkRules n d l) → l .from ≤ n
+      location (more f _) = f
+
+      endpoint : {l : Link} → AllHold (serviceLinkRules n d l) → (1 ≤ l .to) × (l .to ≤ d)
+      endpoint (more _ (more t none)) = t
+
+  pub services-hold : ServiceLinks n d p → AllHold rs → AllHold (of-each ++ rs)
+  unfolding serviceLinkRules
+  services-hold s =
+      hold-both
+      (each-hold (serviceLinkRules n d) noLink (p .serviceLinks) (λ i h. more (s .location i h) (more (s .endpoint-some i h, s .endpoint-most i h) none)))
 
 -- the rules in their order
 pub record Kept (bs : List ℕ) : Type 0 where
@@ -22,11 +55,12 @@ pub record Kept (bs : List ℕ) : Type 0 where
 
 pub holds-kept : (bs : List ℕ) → AllHold (rules bs) → Kept bs
 unfolding rules rulesWith listRules
-holds-kept bs (more a (more b (more c (more d (more e (more f (more g (more h (more i none))))))))) =
-    record { header = a; edition = b; sizes = c; counts = d; long = e; states = f; links = g; serviceLinks = h; ends = i }
+holds-kept bs (more a (more b (more c (more d (more e (more f (more g r))))))) =
+    let s = holds-services _ _ (pictureOf bs) _ r in
+    record { header = a; edition = b; sizes = c; counts = d; long = e; states = f; links = g; serviceLinks = s .0; ends = hold-one (s .1) }
 
 pub kept-holds : {bs : List ℕ} → Kept bs → AllHold (rules bs)
 unfolding rules rulesWith listRules
 kept-holds k =
     more (k .header) (more (k .edition) (more (k .sizes) (more (k .counts) (more (k .long) (more (k .states) (more (k .links)
-    (more (k .serviceLinks) (more (k .ends) none))))))))
+    (services-hold _ _ _ _ (k .serviceLinks) (more (k .ends) none))))))))

@@ -30,15 +30,15 @@ stateFault k = on (ltb stateMax k) 5
 unfoldable pub linkFault : ℕ → Link → ℕ
 linkFault n l = on (ltb n (l .from) || ltb n (l .to)) 6
 
--- 6: the location of a service link is above n, or its endpoint is 0 or above D
+-- 17: the location of a service link is above n; then 18: its endpoint is 0 or above D
 unfoldable pub serviceLinkFault : ℕ → ℕ → Link → ℕ
-serviceLinkFault n d l = on (ltb n (l .from) || (eqb (l .to) 0 || ltb d (l .to))) 6
+serviceLinkFault n d l = first (on (ltb n (l .from)) 17 ∷ on (eqb (l .to) 0 || ltb d (l .to)) 18 ∷ [])
 
 -- 7: the fill bits up to the byte are zero, and then the picture ends
 unfoldable pub endRight : Edition → Header → List ℕ → Bool
 endRight e h bs = eqb (fieldAt bs (endAt e h) (sizeOf e h * 8 - endAt e h)) 0 && eqb (length bs) (sizeOf e h)
 
--- the faults of the lists, each its number or 0: states in order (5), links and then service links (6)
+-- the faults of the lists, each its number or 0: states in order (5), links (6), and then service links (17, 18)
 unfoldable pub listFaults : Header → Picture → List ℕ
 listFaults h p =
     first (map (λ s. stateFault (s .state)) (p .slots))

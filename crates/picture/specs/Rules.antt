@@ -4,7 +4,7 @@ use mathlib.Core.Path.{_≡_}
 use Prim.Native.Nat.{ℕ, _*_, _/_, _%_, _≤_, _<_}
 use lib.ListN.{length, getD}
 use Rattle.bits.specs.Bits.{bitAt}
-use Rattle.lists.specs.Rules.{Rule}
+use Rattle.lists.specs.Rules.{Rule, eachRules}
 use Rattle.picture.specs.declared.Header.{Header}
 use Rattle.picture.specs.declared.Link.{Link}
 use Rattle.picture.specs.Layout.{Edition, editionOf, headerWidths, fieldIn, blockSizeMax, blocksMax, endpointsMax, linksMax, stateMax, leastBytes, endAt, sizeOf}
@@ -38,24 +38,25 @@ pub record Links (n : ℕ) (p : Picture) : Type 0 where
   pub from : (i : ℕ) → i < length (p .links) → getD (p .links) i noLink .from ≤ n
   pub to : (i : ℕ) → i < length (p .links) → getD (p .links) i noLink .to ≤ n
 
--- "S serving links: location 8 (0 to n), cab 8 (1 to D)"
-pub record ServiceLinks (n d : ℕ) (p : Picture) : Type 0 where
-  pub location : (i : ℕ) → i < length (p .serviceLinks) → getD (p .serviceLinks) i noLink .from ≤ n
-  pub endpoint-some : (i : ℕ) → i < length (p .serviceLinks) → 1 ≤ getD (p .serviceLinks) i noLink .to
-  pub endpoint-most : (i : ℕ) → i < length (p .serviceLinks) → getD (p .serviceLinks) i noLink .to ≤ d
+-- "S serving links: location 8 (0 to n), cab 8 (1 to D)"; of each one (02, C-14) "17 is a location above n and 18 is a cab of 0 or above D"
+unfoldable pub serviceLinkRules : ℕ → ℕ → Link → List Rule
+serviceLinkRules n d l =
+    record { number = 17; holds = l .from ≤ n }
+    ∷ record { number = 18; holds = (1 ≤ l .to) × (l .to ≤ d) }
+    ∷ []
 
 -- "Zero bits up to the byte, then the end"
 pub record Ends (e : Edition) (h : Header) (bs : List ℕ) : Type 0 where
   pub fill : (i : ℕ) → endAt e h ≤ i → i < sizeOf e h * 8 → bitAt bs i ≡ 0
   pub end : length bs ≡ sizeOf e h
 
--- the rules of the lists with their numbers, in the order in which they are judged
+-- the rules of the lists with their numbers, in the order in which they are judged: service links (02, C-14) "one after another, each one's
+-- location before its cab"
 unfoldable pub listRules : Header → Picture → List Rule
 listRules h p =
     record { number = 5; holds = States (h .slots) p }
     ∷ record { number = 6; holds = Links (h .slots) p }
-    ∷ record { number = 6; holds = ServiceLinks (h .slots) (h .endpoints) p }
-    ∷ []
+    ∷ eachRules (serviceLinkRules (h .slots) (h .endpoints)) (p .serviceLinks)
 
 -- all rules in their order
 unfoldable pub rulesWith : Edition → Header → Picture → List ℕ → List Rule

@@ -351,20 +351,20 @@ fn links_fault(s: &[u8], h: Header) -> u8
     0
 }
 
-// The fault of one service link.
+// The fault of one service link: its location's before its endpoint's.
 pub fn service_link_fault(l: Link, n: usize, d: usize) -> u8
     ensures { λ r. ⌜ r ≡ serviceLinkFault n d l ⌝ }
 {
-    let from = l.from;
-    let to = l.to;
-    if n < from {
-        return refusals::LINK;
+    let location = l.from;
+    let endpoint = l.to;
+    if n < location {
+        return refusals::SERVICE_LOCATION;
     }
-    if to == 0 {
-        return refusals::LINK;
+    if endpoint == 0 {
+        return refusals::SERVICE_ENDPOINT;
     }
-    if d < to {
-        return refusals::LINK;
+    if d < endpoint {
+        return refusals::SERVICE_ENDPOINT;
     }
     0
 }

@@ -1,5 +1,5 @@
-// The numbers of refusals, for every layer, by the names of the header for C. Every call judges the picture first (1 to 7), and write the lists
-// of one (3 to 6).
+// The numbers of refusals, for every layer, by the names of the header for C. Every call judges the picture first (1 to 6, 17, 18, 7), and write
+// the lists of one (3 to 6, 17, 18).
 
 // The picture is shorter than a header, or than its header says.
 pub const SHORT: u8 = 1;
@@ -16,7 +16,7 @@ pub const COUNTS: u8 = 4;
 // A slot in state 3, or above.
 pub const STATE: u8 = 5;
 
-// A link or service link names what is not there.
+// A link names a location that is not there.
 pub const LINK: u8 = 6;
 
 // Fill bits not zero, or bytes left.
@@ -48,3 +48,9 @@ pub const WEIGHT: u8 = 15;
 
 // Check: verdict, block or loss is not what sections and forests imply.
 pub const VERDICT: u8 = 16;
+
+// A service link names a location that is not there.
+pub const SERVICE_LOCATION: u8 = 17;
+
+// A service link names an endpoint that is not there.
+pub const SERVICE_ENDPOINT: u8 = 18;

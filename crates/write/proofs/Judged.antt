@@ -15,7 +15,8 @@ use Rattle.picture.specs.Layout.{edition1}
 use Rattle.picture.specs.Picture.{Picture}
 use Rattle.picture.specs.Faults.{sizesRight, countsRight, listFaults}
 use Rattle.picture.specs.Rules.{listRules}
-use Rattle.picture.proofs.Judging.{right-sizes, sizes-right, right-counts, counts-right, lists-judged}
+use Rattle.picture.proofs.Judging.{right-sizes, sizes-right, right-counts, counts-right, lists-judged, lists-numbered}
+use Rattle.picture.proofs.Kept.{holds-services, services-hold}
 use Rattle.write.specs.Columns.{Lists, pictureFrom, headerFor}
 use Rattle.write.specs.Rules.{sizeFor, handedRules, writeRules}
 use Rattle.write.specs.Faults.{handedFaults, writeFault}
@@ -49,23 +50,19 @@ module _ (l : Lists) where
 
   hold-right : (rs : List Rule) → AllHold (handedRules l ++ rs) → Right l × AllHold rs
   unfolding handedRules listRules
-  hold-right rs (more a (more b (more c (more d (more e (more f (more g r))))))) = (
-    record { slots-even = a; sizes = b; endpoints-even = c; counts = d; states = e; links = f; serviceLinks = g },
-    r,
-  )
+  hold-right rs (more a (more b (more c (more d (more e (more f r)))))) =
+      let s = holds-services _ _ p rs r in
+      (record { slots-even = a; sizes = b; endpoints-even = c; counts = d; states = e; links = f; serviceLinks = s .0 }, s .1)
 
   right-hold : (rs : List Rule) → Right l → AllHold rs → AllHold (handedRules l ++ rs)
   unfolding handedRules listRules
   right-hold rs r a =
-      more (r .slots-even) (more (r .sizes) (more (r .endpoints-even) (more (r .counts) (more (r .states) (more (r .links) (more (r .serviceLinks) a))))))
+      more (r .slots-even) (more (r .sizes) (more (r .endpoints-even) (more (r .counts) (more (r .states) (more (r .links) (services-hold _ _ _ rs (r .serviceLinks) a))))))
 
   -- no number is 0
   numbered : (rs : List Rule) → Numbered rs → Numbered (handedRules l ++ rs)
-  unfolding handedRules listRules
-  numbered rs m = (
-    λ z. absurd (omega arith),
-    (λ z. absurd (omega arith), (λ z. absurd (omega arith), (λ z. absurd (omega arith), (λ z. absurd (omega arith), (λ z. absurd (omega arith), (λ z. absurd (omega arith), m)))))),
-  )
+  unfolding handedRules
+  numbered rs m = (λ z. absurd (omega arith), (λ z. absurd (omega arith), (λ z. absurd (omega arith), (λ z. absurd (omega arith), lists-numbered h p rs m))))
 
   -- ---- where the number is 0
 

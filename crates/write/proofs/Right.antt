@@ -2,7 +2,8 @@
 use mathlib.Core.Path.{_≡_}
 use lib.ListN.{length}
 use Rattle.picture.specs.Layout.{edition1}
-use Rattle.picture.specs.Rules.{Sizes, Counts, States, Links, ServiceLinks}
+use Rattle.picture.specs.Rules.{Sizes, Counts, States, Links}
+use Rattle.picture.proofs.Kept.{ServiceLinks}
 use Rattle.write.specs.Columns.{Lists, pictureFrom, headerFor}
 
 -- lists that keep their rules, by name
