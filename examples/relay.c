@@ -26,7 +26,7 @@ static const char *message(int32_t answer)
     case BLOCKPLAN_REFUSED_BLOCKS: return "block size, slots and blocks do not go together or are out of range";
     case BLOCKPLAN_REFUSED_COUNTS: return "number of endpoints or links out of range";
     case BLOCKPLAN_REFUSED_STATE: return "a slot has no valid state";
-    case BLOCKPLAN_REFUSED_LINK: return "a link names what is not there";
+    case BLOCKPLAN_REFUSED_LINK: return "a link names a location that is not there";
     case BLOCKPLAN_REFUSED_FILL: return "the picture does not end where it should";
     case BLOCKPLAN_REFUSED_NO_BLOCK: return "there is no such block";
     case BLOCKPLAN_REFUSED_BUFFER: return "the buffer is too short for the evidence";
@@ -37,6 +37,8 @@ static const char *message(int32_t answer)
     case BLOCKPLAN_REFUSED_FOREST: return "a forest in the evidence breaks its rules";
     case BLOCKPLAN_REFUSED_WEIGHT: return "a weight or a mark in the evidence is wrong";
     case BLOCKPLAN_REFUSED_VERDICT: return "the evidence does not support its own verdict";
+    case BLOCKPLAN_REFUSED_SERVICE_LOCATION: return "a service link names a location that is not there";
+    case BLOCKPLAN_REFUSED_SERVICE_ENDPOINT: return "a service link names an endpoint that is not there";
     default: return "unknown answer";
     }
 }

@@ -80,48 +80,51 @@ extern "C" {
 #define BLOCKPLAN_STACK 65536
 
 /*
- * The numbers of refusals. Every call judges the picture first (1 to 7); write, which is handed the lists of one, judges these by the same rules in
- * the same order (3 to 6).
+ * The numbers of refusals. Every call judges the picture first (1 to 7, 17, 18: the picture's numbers); write, which is handed the lists of one,
+ * judges these by the same rules in the same order (3 to 6, 17, 18).
  */
 enum blockplan_refusal {
-    BLOCKPLAN_REFUSED_SHORT = 1,      /* the picture is shorter than a header, or than its header says */
-    BLOCKPLAN_REFUSED_EDITION = 2,    /* its edition is not 1 */
-    BLOCKPLAN_REFUSED_BLOCKS = 3,     /* block size, slots or number of blocks out of range, or slots not a multiple of the block size;
-                                         write: also where states and near bits differ in number */
-    BLOCKPLAN_REFUSED_COUNTS = 4,     /* number of endpoints, links or service links out of range;
-                                         write: also where weights and protected bits differ in number */
-    BLOCKPLAN_REFUSED_STATE = 5,      /* a slot in state 3; write: in state 3 or above */
-    BLOCKPLAN_REFUSED_LINK = 6,       /* a link or service link names what is not there */
-    BLOCKPLAN_REFUSED_FILL = 7,       /* fill bits not zero, or bytes left */
-    BLOCKPLAN_REFUSED_NO_BLOCK = 8,   /* the acts: no block of this number */
-    BLOCKPLAN_REFUSED_BUFFER = 9,     /* choose, write: the buffer is under the length of the evidence, or of the picture */
-    BLOCKPLAN_REFUSED_PROTECTED = 10, /* evict, free: a protected endpoint would be cut */
-    BLOCKPLAN_REFUSED_NO_CHANGE = 11, /* the acts: no slot would change */
-    BLOCKPLAN_REFUSED_NEAR = 12,      /* reload: it adds a held near slot, and more than the near limit would be held */
-    BLOCKPLAN_REFUSED_FORM = 13,      /* check: length, edition or candidate count wrong, a section of another block, a verdict or mark over 1 */
-    BLOCKPLAN_REFUSED_FOREST = 14,    /* check: a forest breaks its rules */
-    BLOCKPLAN_REFUSED_WEIGHT = 15,    /* check: served weight, a loss or a mark is wrong */
-    BLOCKPLAN_REFUSED_VERDICT = 16    /* check: verdict, block or loss is not what sections and forests imply */
+    BLOCKPLAN_REFUSED_SHORT = 1,             /* the picture is shorter than a header, or than its header says */
+    BLOCKPLAN_REFUSED_EDITION = 2,           /* its edition is not 1 */
+    BLOCKPLAN_REFUSED_BLOCKS = 3,            /* block size, slots or number of blocks out of range, or slots not a multiple of the block size;
+                                                write: also where states and near bits differ in number */
+    BLOCKPLAN_REFUSED_COUNTS = 4,            /* number of endpoints, links or service links out of range;
+                                                write: also where weights and protected bits differ in number */
+    BLOCKPLAN_REFUSED_STATE = 5,             /* a slot in state 3; write: in state 3 or above */
+    BLOCKPLAN_REFUSED_LINK = 6,              /* an end of a link is above n */
+    BLOCKPLAN_REFUSED_FILL = 7,              /* fill bits not zero, or bytes left */
+    BLOCKPLAN_REFUSED_NO_BLOCK = 8,          /* the acts: no block of this number */
+    BLOCKPLAN_REFUSED_BUFFER = 9,            /* choose, write: the buffer is under the length of the evidence, or of the picture */
+    BLOCKPLAN_REFUSED_PROTECTED = 10,        /* evict, free: a protected endpoint would be cut */
+    BLOCKPLAN_REFUSED_NO_CHANGE = 11,        /* the acts: no slot would change */
+    BLOCKPLAN_REFUSED_NEAR = 12,             /* reload: it adds a held near slot, and more than the near limit would be held */
+    BLOCKPLAN_REFUSED_FORM = 13,             /* check: length, edition or candidate count wrong, a section of another block, a verdict or
+                                                mark over 1 */
+    BLOCKPLAN_REFUSED_FOREST = 14,           /* check: a forest breaks its rules */
+    BLOCKPLAN_REFUSED_WEIGHT = 15,           /* check: served weight, a loss or a mark is wrong */
+    BLOCKPLAN_REFUSED_VERDICT = 16,          /* check: verdict, block or loss is not what sections and forests imply */
+    BLOCKPLAN_REFUSED_SERVICE_LOCATION = 17, /* the location of a service link is above n */
+    BLOCKPLAN_REFUSED_SERVICE_ENDPOINT = 18  /* the endpoint of a service link is 0 or above D */
 };
 
 /*
  * Chooses the block to give up: of the blocks with a held near slot that cut no protected endpoint the one that loses least weight; of those
  * that lose as much the one that cuts fewest endpoints, also counting those of weight 0; of those the one with the lowest number; or none.
  * Writes the evidence for it into the buffer and returns its length; the bytes beyond stay as they were. Verdict, block and loss are in its
- * head (the macros above). Refuses with 1 to 7, then 9.
+ * head (the macros above). Refuses with the picture's numbers, then 9.
  */
 int32_t blockplan_choose(const uint8_t *picture, size_t picture_length, uint8_t *evidence, size_t evidence_length);
 
 /*
  * Checks evidence, from whatever maker, against a picture. Returns 0 where it keeps all rules. Any other evidence that passes for the
- * same picture has the same verdict and the same loss and, with verdict 1, names a block that cuts as many endpoints. Refuses with 1 to 7,
- * then 13 to 16.
+ * same picture has the same verdict and the same loss and, with verdict 1, names a block that cuts as many endpoints. Refuses with the
+ * picture's numbers, then 13 to 16.
  */
 int32_t blockplan_check(const uint8_t *picture, size_t picture_length, const uint8_t *evidence, size_t evidence_length);
 
 /*
- * The acts change the states of one block's slots in the lent picture, and no other bit. Each returns 0 when it is done. Refuses with 1 to 7,
- * then 8, 11, and then evict and free with 10, reload with 12.
+ * The acts change the states of one block's slots in the lent picture, and no other bit. Each returns 0 when it is done. Refuses with the
+ * picture's numbers, then 8, 11, and then evict and free with 10, reload with 12.
  *
  * evict: held slots become recoverable. reload: recoverable slots become held. free: held and recoverable slots become freed, for good.
  */
@@ -140,12 +143,14 @@ int32_t blockplan_free(uint8_t *picture, size_t picture_length, uint32_t block);
  *
  * The near limit may be any number of its type. Refuses, in this order, with
  *
- *   3  where state_count and near_count differ; where the block size is 0 or above BLOCKPLAN_BLOCK_SIZE_MAX, or n is 0, above BLOCKPLAN_SLOTS_MAX
- *      or no multiple of the block size, or there are more than BLOCKPLAN_BLOCKS_MAX blocks
- *   4  where weight_count and protected_count differ; where D is above BLOCKPLAN_ENDPOINTS_MAX, or L or S above BLOCKPLAN_LINKS_MAX
- *   5  where a state is above 2
- *   6  where an end of a link is above n; then, where a service link has a location above n, or an endpoint that is 0 or above D
- *   9  where the buffer is shorter than the picture
+ *   3   where state_count and near_count differ; where the block size is 0 or above BLOCKPLAN_BLOCK_SIZE_MAX, or n is 0, above
+ *       BLOCKPLAN_SLOTS_MAX or no multiple of the block size, or there are more than BLOCKPLAN_BLOCKS_MAX blocks
+ *   4   where weight_count and protected_count differ; where D is above BLOCKPLAN_ENDPOINTS_MAX, or L or S above BLOCKPLAN_LINKS_MAX
+ *   5   where a state is above 2
+ *   6   where an end of a link is above n
+ *   17  where a service link's location is above n, 18 where its endpoint is 0 or above D: of one service link after another, of each the
+ *       location first
+ *   9   where the buffer is shorter than the picture
  *
  * Rows of links that are not const take a cast, (const uint16_t (*)[2])links, in C before C23.
  */

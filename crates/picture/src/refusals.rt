@@ -1,4 +1,4 @@
-// The numbers of refusals, for every layer, by the names of the header for C. Every call judges the picture first (1 to 6, 17, 18, 7), and write
+// The numbers of refusals, for every layer, by the names of the header for C. Every call judges the picture first (1 to 7, 17, 18), and write
 // the lists of one (3 to 6, 17, 18).
 
 // The picture is shorter than a header, or than its header says.
@@ -16,7 +16,7 @@ pub const COUNTS: u8 = 4;
 // A slot in state 3, or above.
 pub const STATE: u8 = 5;
 
-// A link names a location that is not there.
+// An end of a link is above n.
 pub const LINK: u8 = 6;
 
 // Fill bits not zero, or bytes left.
@@ -49,8 +49,8 @@ pub const WEIGHT: u8 = 15;
 // Check: verdict, block or loss is not what sections and forests imply.
 pub const VERDICT: u8 = 16;
 
-// A service link names a location that is not there.
+// The location of a service link is above n.
 pub const SERVICE_LOCATION: u8 = 17;
 
-// A service link names an endpoint that is not there.
+// The endpoint of a service link is 0 or above D.
 pub const SERVICE_ENDPOINT: u8 = 18;
