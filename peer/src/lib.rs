@@ -3,7 +3,7 @@
 //! speed.
 //!
 //! Words are those of document 01, with origin for the office, endpoint for a cab and network for
-//! a farm. Refusals are the numbers of document 01, see [`refusals`].
+//! a farm. Refusals are numbers, see [`refusals`].
 
 #![deny(unsafe_code)]
 

@@ -1,6 +1,6 @@
 //! The picture of one network: its layout in bytes, read and packed.
 
-use std::ops::Range;
+use std::ops::{Range, RangeInclusive};
 
 use crate::bits::{BitReader, BitWriter};
 use crate::refusals;
@@ -142,18 +142,16 @@ impl Header {
 
     /// A link whose ends are both there.
     pub fn link(&self, from: u16, to: u16) -> Result<(u8, u8), u8> {
-        let is_there = self.has_location(from) && self.has_location(to);
-        named(is_there, from, to)
+        let from = named(from, 0..=self.slots, refusals::LINK)?;
+        let to = named(to, 0..=self.slots, refusals::LINK)?;
+        Ok((from, to))
     }
 
-    /// A serving link whose location and endpoint are there.
+    /// A serving link whose location and endpoint are there, judged in this order.
     pub fn serving_link(&self, location: u16, endpoint: u16) -> Result<(u8, u8), u8> {
-        let has_endpoint = (1..=self.endpoints).contains(&usize::from(endpoint));
-        named(self.has_location(location) && has_endpoint, location, endpoint)
-    }
-
-    fn has_location(&self, location: u16) -> bool {
-        usize::from(location) <= self.slots
+        let location = named(location, 0..=self.slots, refusals::SERVICE_LOCATION)?;
+        let endpoint = named(endpoint, 1..=self.endpoints, refusals::SERVICE_ENDPOINT)?;
+        Ok((location, endpoint))
     }
 
     fn picture_bytes(&self) -> usize {
@@ -162,8 +160,8 @@ impl Header {
 }
 
 /// What is there has a number of eight bits.
-fn named(is_there: bool, first: u16, second: u16) -> Result<(u8, u8), u8> {
-    is_there.then_some((first as u8, second as u8)).ok_or(refusals::LINK)
+fn named(number: u16, there: RangeInclusive<usize>, refusal: u8) -> Result<u8, u8> {
+    there.contains(&usize::from(number)).then_some(number as u8).ok_or(refusal)
 }
 
 /// Reads a picture, or tells its first fault.

@@ -1,4 +1,5 @@
-//! The numbers of the refusals, as document 01 lists them, by the names of the header for C.
+//! The numbers of the refusals, as document 01's table lists them and 02 adds to it, by the names of
+//! the header for C.
 
 pub const SHORT: u8 = 1;
 pub const EDITION: u8 = 2;
@@ -16,3 +17,5 @@ pub const FORM: u8 = 13;
 pub const FOREST: u8 = 14;
 pub const WEIGHT: u8 = 15;
 pub const VERDICT: u8 = 16;
+pub const SERVICE_LOCATION: u8 = 17;
+pub const SERVICE_ENDPOINT: u8 = 18;

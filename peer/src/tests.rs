@@ -1,4 +1,4 @@
-//! Document 01's examples and its table of numbers.
+//! Document 01's examples and its table of numbers, with those that 02 adds.
 
 use crate::choice::evidence_bytes;
 use crate::picture::State;
@@ -76,16 +76,18 @@ fn the_lines_of_layout_are_case_a() {
     assert_eq!(file("examples/layout.lines"), lines.into_bytes());
 }
 
-/// The header for C has the limits and the numbers that this implementation has.
-#[test]
-fn the_header_has_the_numbers() {
+/// The number that the header for C gives this name.
+fn in_header(name: &str) -> usize {
     let header = String::from_utf8(file("include/blockplan.h")).expect("text");
     let words: Vec<&str> = header.split_whitespace().filter(|word| *word != "=").collect();
-    let number = |name: &str| {
-        let value = |pair: &[&str]| pair[1].trim_end_matches(',').parse::<usize>().ok();
-        let named = words.windows(2).filter(|pair| pair[0] == name);
-        named.filter_map(value).next().unwrap_or_else(|| panic!("{name} has no number"))
-    };
+    let value = |pair: &[&str]| pair[1].trim_end_matches(',').parse().ok();
+    let named = words.windows(2).filter(|pair| pair[0] == name);
+    named.filter_map(value).next().unwrap_or_else(|| panic!("{name} has no number"))
+}
+
+/// The header for C has the limits that this implementation has.
+#[test]
+fn the_header_has_the_limits() {
     let sizes = [
         ("BLOCK_SIZE_MAX", MAX_BLOCK_SIZE),
         ("SLOTS_MAX", MAX_SLOTS),
@@ -96,8 +98,13 @@ fn the_header_has_the_numbers() {
         ("EVIDENCE_MAX", evidence_bytes(MAX_SLOTS, MAX_BLOCKS)),
     ];
     for (name, value) in sizes {
-        assert_eq!(number(&format!("BLOCKPLAN_{name}")), value, "{name}");
+        assert_eq!(in_header(&format!("BLOCKPLAN_{name}")), value, "{name}");
     }
+}
+
+/// The header for C and the library have the numbers that this implementation has.
+#[test]
+fn the_header_has_the_numbers() {
     let library = include_str!("../../crates/picture/src/refusals.rt");
     let refusals = [
         ("SHORT", refusals::SHORT),
@@ -116,9 +123,11 @@ fn the_header_has_the_numbers() {
         ("FOREST", refusals::FOREST),
         ("WEIGHT", refusals::WEIGHT),
         ("VERDICT", refusals::VERDICT),
+        ("SERVICE_LOCATION", refusals::SERVICE_LOCATION),
+        ("SERVICE_ENDPOINT", refusals::SERVICE_ENDPOINT),
     ];
     for (name, value) in refusals {
-        assert_eq!(number(&format!("BLOCKPLAN_REFUSED_{name}")), usize::from(value), "{name}");
+        assert_eq!(in_header(&format!("BLOCKPLAN_REFUSED_{name}")), usize::from(value), "{name}");
         assert!(library.contains(&format!("pub const {name}: u8 = {value};")), "{name}");
     }
 }
@@ -162,13 +171,14 @@ fn examples_keep_their_further_statements() {
 }
 
 #[test]
-fn numbers_1_to_7_by_example() {
+fn numbers_1_to_7_17_and_18_by_example() {
     let changed = |place: usize, value: u8| {
         let mut bytes = A_BYTES.to_vec();
         bytes[place] = value;
         bytes
     };
     let link_to_5 = pack(&Picture { links: vec![(0, 1), (0, 2), (1, 3), (0, 5)], ..case_a() });
+    let serving = |first| pack(&Picture { serving: vec![first, (2, 1), (4, 2)], ..case_a() });
     let spare_byte = [&A_BYTES[..], &[0]].concat();
     let examples = [
         (refusals::SHORT, Vec::new()),
@@ -178,6 +188,8 @@ fn numbers_1_to_7_by_example() {
         (refusals::STATE, changed(7, 0xE4)),
         (refusals::LINK, link_to_5),
         (refusals::FILL, spare_byte),
+        (refusals::SERVICE_LOCATION, serving((5, 1))),
+        (refusals::SERVICE_ENDPOINT, serving((1, 3))),
     ];
     for (number, picture) in examples {
         let mut kept = picture.clone();
@@ -190,6 +202,7 @@ fn numbers_1_to_7_by_example() {
         assert_eq!(reload(&mut kept, 0), Err(number));
         assert_eq!(free(&mut kept, 0), Err(number));
         assert!(show(&picture, &A_EVIDENCE).is_empty());
+        assert_eq!(listing(&picture), format!("refused {number}\n"));
         assert_eq!((kept, buffer), (picture, [0xEE; 43]));
     }
 }
@@ -239,12 +252,6 @@ fn limits_are_those_of_the_document() {
     assert_eq!(header(1, 0, 0), Err(refusals::BLOCKS));
     assert_eq!(header(1, 60, 201), Err(refusals::COUNTS));
     assert_eq!(evidence_bytes(240, 60), 29589);
-}
-
-#[test]
-fn serving_without_endpoints_is_refused() {
-    let picture = Picture { endpoints: Vec::new(), ..case_a() };
-    assert_eq!(read(&pack(&picture)), Err(refusals::LINK));
 }
 
 #[test]
@@ -316,7 +323,7 @@ fn changed_a(change: Change) -> Lists {
 }
 
 /// What write answers with a buffer of this length, and the picture that it wrote.
-fn written(lists: &Lists, room: usize) -> Result<Vec<u8>, u8> {
+pub fn written(lists: &Lists, room: usize) -> Result<Vec<u8>, u8> {
     // Ones, so that bits which the picture has as zeros are seen to be written.
     let mut buffer = vec![0xFF; room];
     let answer = write(lists, &mut buffer);
@@ -326,7 +333,7 @@ fn written(lists: &Lists, room: usize) -> Result<Vec<u8>, u8> {
     answer.map(|_| buffer)
 }
 
-const ROOM: usize = MAX_PICTURE_BYTES + 11;
+pub const ROOM: usize = MAX_PICTURE_BYTES + 11;
 
 #[test]
 fn lists_of_case_a_give_its_bytes() {
@@ -351,7 +358,7 @@ fn every_sample_is_written_as_it_was_read() {
 
 #[test]
 fn lists_are_refused_with_the_readers_numbers() {
-    let examples: [(u8, Change); 28] = [
+    let examples: [(u8, Change); 30] = [
         (refusals::BLOCKS, |lists| lists.near.truncate(3)),
         (refusals::BLOCKS, |lists| lists.near.push(true)),
         (refusals::BLOCKS, |lists| lists.states.truncate(2)),
@@ -376,10 +383,12 @@ fn lists_are_refused_with_the_readers_numbers() {
         (refusals::STATE, |lists| lists.states[0] = 4),
         (refusals::LINK, |lists| lists.links[3][0] = 5),
         (refusals::LINK, |lists| lists.links[3][1] = 256),
-        (refusals::LINK, |lists| lists.serving[0][0] = 256 + 1),
-        (refusals::LINK, |lists| lists.serving[0][1] = 0),
-        (refusals::LINK, |lists| lists.serving[2][1] = 3),
-        (refusals::LINK, |lists| set_endpoints(lists, 0)),
+        (refusals::SERVICE_LOCATION, |lists| lists.serving[0][0] = 256 + 1),
+        (refusals::SERVICE_LOCATION, |lists| lists.serving[2] = [u16::MAX, 256 + 2]),
+        (refusals::SERVICE_ENDPOINT, |lists| lists.serving[0][1] = 0),
+        (refusals::SERVICE_ENDPOINT, |lists| lists.serving[2][1] = 3),
+        (refusals::SERVICE_ENDPOINT, |lists| lists.serving[2][1] = 256 + 2),
+        (refusals::SERVICE_ENDPOINT, |lists| set_endpoints(lists, 0)),
     ];
     for (row, (number, change)) in examples.into_iter().enumerate() {
         for room in [0, A_BYTES.len(), ROOM] {
@@ -419,8 +428,11 @@ fn lists_at_the_limits_are_written() {
 /// Faults from the last to the first: the number of the first is told, whatever comes behind it.
 #[test]
 fn lists_are_judged_in_the_readers_order() {
-    let faults: [(u8, Change); 7] = [
-        (refusals::LINK, |lists| lists.serving[0] = [5, 3]),
+    let faults: [(u8, Change); 10] = [
+        (refusals::SERVICE_ENDPOINT, |lists| lists.serving[1][1] = 256 + 1),
+        (refusals::SERVICE_LOCATION, |lists| lists.serving[1][0] = 256 + 2),
+        (refusals::SERVICE_ENDPOINT, |lists| lists.serving[0][1] = 0),
+        (refusals::SERVICE_LOCATION, |lists| lists.serving[0][0] = 5),
         (refusals::LINK, |lists| lists.links[0] = [65535, 65535]),
         (refusals::STATE, |lists| lists.states[3] = 255),
         (refusals::COUNTS, |lists| lists.serving.resize(2001, [5, 3])),
