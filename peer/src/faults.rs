@@ -1,8 +1,10 @@
 //! Faults in lists that are right, a kind at a time: small changes, which can also be made together
-//! so that their order shows.
+//! so that their order shows. And pictures with every two numbers in their links wrong.
 
 use crate::lists::Lists;
+use crate::picture::Picture;
 use crate::random::Random;
+use crate::refusals;
 
 pub type Fault = fn(&mut Random, &mut Lists);
 
@@ -76,4 +78,47 @@ fn beyond(random: &mut Random, limit: usize) -> u16 {
     let right = random.between(0, limit.min(255)) as u16;
     let high = (random.between(1, 255) << 8) as u16;
     *random.pick(&[limit as u16 + 1, 256, 256 + right, high | right, u16::MAX])
+}
+
+/// A picture that is right with one number in its links and serving links made wrong, or two, each
+/// time with the refusal that is due: that of the first.
+pub fn wrong_ends(picture: &Picture) -> Vec<(u8, Picture)> {
+    let count = 2 * (picture.links.len() + picture.serving.len());
+    let mut wrong = Vec::new();
+    for first in 0..count {
+        for second in first..count {
+            let mut picture = picture.clone();
+            let mut ends = ends(&mut picture);
+            let due = ends[first].refusal;
+            for place in [first, second] {
+                *ends[place].number = ends[place].wrong;
+            }
+            wrong.push((due, picture));
+        }
+    }
+    wrong
+}
+
+/// A number in a link or serving link, one that would be wrong there, and what that gets.
+struct End<'p> {
+    number: &'p mut u8,
+    wrong: u8,
+    refusal: u8,
+}
+
+/// In the order of the layout.
+fn ends(picture: &mut Picture) -> Vec<End<'_>> {
+    let no_location = picture.slots.len() as u8 + 1;
+    let no_endpoint = picture.endpoints.len() as u8 + 1;
+    let mut ends = Vec::new();
+    let mut add = |number, wrong, refusal| ends.push(End { number, wrong, refusal });
+    for (from, to) in &mut picture.links {
+        add(from, no_location, refusals::LINK);
+        add(to, no_location, refusals::LINK);
+    }
+    for (row, (location, endpoint)) in picture.serving.iter_mut().enumerate() {
+        add(location, no_location, refusals::SERVICE_LOCATION);
+        add(endpoint, [no_endpoint, 0][row % 2], refusals::SERVICE_ENDPOINT);
+    }
+    ends
 }

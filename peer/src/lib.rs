@@ -35,6 +35,8 @@ pub use lists::{lists_of, write, Lists};
 pub use picture::{pack, read, Picture};
 
 #[cfg(test)]
+mod link_tests;
+#[cfg(test)]
 mod random_tests;
 #[cfg(test)]
 mod tests;
