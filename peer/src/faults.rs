@@ -8,9 +8,9 @@ use crate::refusals;
 
 pub type Fault = fn(&mut Random, &mut Lists);
 
-/// In the order in which they are judged.
-pub const FAULTS: [Fault; 6] =
-    [block_size, slot_columns, endpoint_columns, state, link_end, serving_end];
+/// In the order in which they are judged; the last two link by link.
+pub const FAULTS: [Fault; 7] =
+    [block_size, slot_columns, endpoint_columns, state, link_end, serving_location, serving_endpoint];
 
 /// Sizes that no picture has; most have a right one in their low bits.
 fn block_size(random: &mut Random, lists: &mut Lists) {
@@ -54,15 +54,18 @@ fn link_end(random: &mut Random, lists: &mut Lists) {
     }
 }
 
-fn serving_end(random: &mut Random, lists: &mut Lists) {
+fn serving_location(random: &mut Random, lists: &mut Lists) {
     let location = beyond(random, lists.states.len());
-    let endpoint = beyond(random, lists.weights.len());
     if let Some(link) = some_row(random, &mut lists.serving) {
-        match random.below(3) {
-            0 => link[0] = location,
-            1 => link[1] = endpoint,
-            _ => link[1] = 0,
-        }
+        link[0] = location;
+    }
+}
+
+fn serving_endpoint(random: &mut Random, lists: &mut Lists) {
+    let above = beyond(random, lists.weights.len());
+    let endpoint = *random.pick(&[0, above]);
+    if let Some(link) = some_row(random, &mut lists.serving) {
+        link[1] = endpoint;
     }
 }
 
