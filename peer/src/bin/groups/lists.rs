@@ -227,7 +227,7 @@ fn exact_buffer(comparison: &mut Comparison, random: &mut Random, lists: &Lists)
 }
 
 /// Every state, at the ends of links the numbers around the limits and those whose low bits are
-/// right, and every number of 16 bits somewhere in case A.
+/// right, also where there are no endpoints, and every number of 16 bits somewhere in case A.
 pub fn values(comparison: &mut Comparison, random: &mut Random, _: usize) {
     for sample in samples::small().into_iter().chain([samples::longest()]) {
         let right = lists_of(&sample);
@@ -240,6 +240,8 @@ pub fn values(comparison: &mut Comparison, random: &mut Random, _: usize) {
         }
         each_end(comparison, random, &right, |lists| &mut lists.links);
         each_end(comparison, random, &right, |lists| &mut lists.serving);
+        let no_endpoints = Lists { weights: Vec::new(), protected: Vec::new(), ..right };
+        each_end(comparison, random, &no_endpoints, |lists| &mut lists.serving);
     }
     for value in 0..=u16::MAX {
         let mut lists = lists_of(&samples::case_a());

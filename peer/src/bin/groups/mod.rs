@@ -21,9 +21,10 @@ const ROOM: usize = evidence_bytes(MAX_SLOTS, MAX_BLOCKS) + 11;
 
 type Group = fn(&mut Comparison, &mut Random, usize);
 
-pub const ALL: [(&str, Group); 30] = [
+pub const ALL: [(&str, Group); 31] = [
     ("truncations of the samples", pictures::truncations),
     ("bit flips of the samples", pictures::bit_flips),
+    ("wrong ends of links", pictures::wrong_ends),
     ("header fields, each value", pictures::header_fields),
     ("limits and one more", pictures::limits),
     ("damaged pictures", pictures::damaged),

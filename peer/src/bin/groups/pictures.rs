@@ -3,7 +3,7 @@
 use peer::networks::{network, Size, SHAPES};
 use peer::picture::Picture;
 use peer::random::Random;
-use peer::{pack, samples};
+use peer::{faults, lists_of, pack, samples};
 
 use super::harness::{Comparison, ACTS};
 use super::raw::{Header, Raw};
@@ -29,6 +29,24 @@ pub fn bit_flips(comparison: &mut Comparison, random: &mut Random, _: usize) {
             turned[bit / 8] ^= 0x80 >> (bit % 8);
             every_call(comparison, random, &turned);
             comparison.check(&turned, &evidence);
+        }
+    }
+}
+
+/// Every sample with one number in its links and serving links wrong, or two, in every call.
+pub fn wrong_ends(comparison: &mut Comparison, _: &mut Random, _: usize) {
+    for sample in samples::small() {
+        for (number, picture) in faults::wrong_ends(&sample) {
+            let mut bytes = pack(&picture);
+            let mut answers = vec![
+                comparison.choose(&bytes, 43),
+                comparison.check(&bytes, &samples::A_EVIDENCE),
+                comparison.write(&lists_of(&picture), &mut bytes.clone()),
+            ];
+            answers.extend(ACTS.iter().map(|act| comparison.act(act, &mut bytes, 0)));
+            for answer in answers {
+                comparison.expect("a call on wrong links", answer, -i32::from(number));
+            }
         }
     }
 }

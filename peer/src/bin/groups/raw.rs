@@ -111,7 +111,9 @@ impl Raw {
 
     /// Some faults of any kinds at once, so that their order shows.
     pub fn damage(&mut self, random: &mut Random) {
-        let kinds = [damage_header, damage_state, damage_link, damage_serving, damage_end];
+        // Serving links twice, as the order of two of them shows too.
+        let kinds =
+            [damage_header, damage_state, damage_link, damage_serving, damage_serving, damage_end];
         for kind in kinds {
             if random.once_in(3) {
                 kind(self, random);
