@@ -7,7 +7,7 @@ use std::fmt::Display;
 use std::process::exit;
 
 use peer::choice::{Plan, Section};
-use peer::faults::FAULTS;
+use peer::faults::{wrong_ends, FAULTS};
 use peer::foreign::{self, GROWTHS};
 use peer::networks::{network, tied, Size, SHAPES};
 use peer::picture::Picture;
@@ -90,6 +90,12 @@ fn numbers(bytes: &[u8]) -> Vec<u32> {
     bytes.iter().copied().map(u32::from).collect()
 }
 
+/// Read of a picture that is refused.
+fn ask_read(table: &mut Table, bytes: &[u8]) {
+    let number = peer::read(bytes).expect_err("a fault");
+    table.add(format!("read {}", list(bytes)), &[u32::from(number)]);
+}
+
 fn ask_choose(table: &mut Table, bytes: &[u8], room: usize) {
     let mut lent = vec![BEFORE; room];
     let answer = choose(bytes, &mut lent);
@@ -106,8 +112,7 @@ fn ask(table: &mut Table, random: &mut Random, picture: &Picture, bytes: &[u8], 
     let name = list(bytes);
     let mut buffer = vec![BEFORE; ROOM];
     let Ok(length) = choose(bytes, &mut buffer) else {
-        table.add(format!("read {name}"), &[u32::from(peer::read(bytes).expect_err("a fault"))]);
-        return;
+        return ask_read(table, bytes);
     };
     let evidence = &buffer[..length];
     for room in [ROOM, length - 1] {
@@ -199,12 +204,22 @@ fn ask_write(table: &mut Table, random: &mut Random, lists: &Lists, room: usize)
     table.add_buffer(question, answer, &lent);
 }
 
+/// A small network with a link and two serving links at least, so that each kind of fault can be had.
+fn linked(random: &mut Random) -> Picture {
+    loop {
+        let size = Size::small(random);
+        let shape = *random.pick(&SHAPES);
+        let picture = network(random, shape, size);
+        if !picture.links.is_empty() && picture.serving.len() > 1 {
+            return picture;
+        }
+    }
+}
+
 /// Lists that are right with each kind of buffer, with each kind of fault, and with all faults from
 /// each kind on, so that the order shows.
 fn ask_lists(table: &mut Table, random: &mut Random) {
-    let size = Size::small(random);
-    let shape = *random.pick(&SHAPES);
-    let mut right = lists_of(&network(random, shape, size));
+    let mut right = lists_of(&linked(random));
     right.weights.fill_with(|| random.draw() as u16);
     let length = write(&right, &mut [0; ROOM]).expect("networks are accepted");
     for room in [length, length - 1, length + random.between(1, 9)] {
@@ -232,6 +247,23 @@ fn ask_blocks(table: &mut Table, random: &mut Random) {
     }
 }
 
+/// A link and two serving links with every two numbers wrong, and without endpoints, read and written.
+fn ask_links(table: &mut Table, random: &mut Random) {
+    let mut picture = linked(random);
+    picture.links.truncate(1);
+    picture.serving.truncate(2);
+    let mut wrong: Vec<Picture> = wrong_ends(&picture).into_iter().map(|(_, wrong)| wrong).collect();
+    picture.endpoints.clear();
+    wrong.push(picture.clone());
+    picture.serving[0].0 = 255;
+    wrong.push(picture);
+    for picture in wrong {
+        let bytes = pack(&picture);
+        ask_read(table, &bytes);
+        ask_write(table, random, &lists_of(&picture), bytes.len());
+    }
+}
+
 fn main() {
     let arguments: Vec<String> = env::args().skip(1).collect();
     let seed = match arguments.as_slice() {
@@ -254,8 +286,10 @@ fn main() {
     let written = table.rows.len() - asked;
     ask_ties(&mut table, &mut random);
     let ties = table.rows.len() - asked - written;
+    ask_links(&mut table, &mut random);
+    let links = table.rows.len() - asked - written - ties;
     eprintln!(
-        "questions: {asked} of {} pictures, {written} of lists, {ties} of ties",
+        "questions: {asked} of {} pictures, {written} of lists, {ties} of ties, {links} of links",
         ROUNDS * SHAPES.len()
     );
     println!("unfoldable pub table : List Row\ntable =\n    {}\n    ∷ []", table.rows.join("\n    ∷ "));
