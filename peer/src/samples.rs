@@ -1,4 +1,5 @@
-//! The field examples of document 01, A to K and M, a tie, a larger network and the longest picture.
+//! The field examples of document 01, A to K and M, a tie, a larger network and the longest picture;
+//! and some that are refused.
 
 use crate::networks::{dense_held, Size};
 use crate::picture::{pack, Endpoint, Picture, Slot, State};
@@ -146,7 +147,8 @@ pub fn small() -> Vec<Picture> {
 }
 
 /// The pictures of `examples/` by their file names: the examples, the tie, the larger network, the
-/// longest picture, and A with a byte too many.
+/// longest picture, and what is refused: A with a serving link that names what is not there, and with
+/// a byte too many.
 pub fn files() -> Vec<(String, Vec<u8>)> {
     let examples =
         all().into_iter().map(|(letter, picture)| (letter.to_lowercase().to_string(), pack(&picture)));
@@ -154,6 +156,8 @@ pub fn files() -> Vec<(String, Vec<u8>)> {
         ("tie".to_string(), pack(&tie())),
         ("larger".to_string(), pack(&larger())),
         ("longest".to_string(), pack(&longest())),
+        ("no-location".to_string(), pack(&variant(|p| p.serving[0].0 = 5))),
+        ("no-endpoint".to_string(), pack(&variant(|p| p.serving[2].1 = 3))),
         ("spare-byte".to_string(), [&A_BYTES[..], &[0]].concat()),
     ];
     examples.chain(others).collect()
