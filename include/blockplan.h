@@ -80,8 +80,8 @@ extern "C" {
 #define BLOCKPLAN_STACK 65536
 
 /*
- * The numbers of refusals. Every call judges the picture first (1 to 7, 17, 18: the picture's numbers); write, which is handed the lists of one,
- * judges these by the same rules in the same order (3 to 6, 17, 18).
+ * The numbers of refusals. Every call judges the picture first (1 to 7, 17 and 18, in the page's order: the picture's numbers); write, which is
+ * handed the lists of one, judges these by the same rules in the same order (3 to 6, 17 and 18).
  */
 enum blockplan_refusal {
     BLOCKPLAN_REFUSED_SHORT = 1,             /* the picture is shorter than a header, or than its header says */
@@ -148,8 +148,8 @@ int32_t blockplan_free(uint8_t *picture, size_t picture_length, uint32_t block);
  *   4   where weight_count and protected_count differ; where D is above BLOCKPLAN_ENDPOINTS_MAX, or L or S above BLOCKPLAN_LINKS_MAX
  *   5   where a state is above 2
  *   6   where an end of a link is above n
- *   17  where a service link's location is above n, 18 where its endpoint is 0 or above D: of one service link after another, of each the
- *       location first
+ *   17  where the location of a service link is above n, or
+ *   18  where its endpoint is 0 or above D: one service link after another, each one's location before its endpoint
  *   9   where the buffer is shorter than the picture
  *
  * Rows of links that are not const take a cast, (const uint16_t (*)[2])links, in C before C23.

@@ -6,13 +6,12 @@ use mathlib.Core.List.{List, []}
 use Prim.Native.Nat.{ℕ, zero, suc, _+_, _-_, _*_, _^_, _≤_, _<_, zero-le, suc-le-suc}
 use native.Mathlib.Omega.{arith}
 use native.Mathlib.Decide.{ℕ-discrete}
-use native.Mathlib.Nat.{zero-add}
 use lib.Dec.{T}
 use lib.ListN.{length, getD, set, replicate, length-set}
 use lib.Seq.{getD-set-same, getD-set-other}
 use Rattle.lists.specs.Lists.{range}
 use Rattle.lists.proofs.Ranges.{length-range}
-use Rattle.lists.proofs.Picks.{getD-range}
+use Rattle.lists.proofs.Picks.{range-at}
 use Rattle.lists.proofs.Faults.{Clean, scan-begun, scan-miss, scan-hit, scan-ended}
 use Rattle.rows.specs.Rows.{marked, linkedIn, With, Minus, Meet, slotsMax, locationsMax, rowWords}
 use Rattle.graph.specs.declared.Node.{Node}
@@ -52,7 +51,7 @@ abbrev pub parts : List ℕ → List ℕ
 parts bs = range 0 (suc (length (candidates (pictureOf bs))))
 
 pub part-of : (bs : List ℕ) (k : ℕ) → k ≤ length (candidates (pictureOf bs)) → getD (parts bs) k 0 ≡ k
-part-of bs k l = getD-range 0 0 (suc (length (candidates (pictureOf bs)))) k (omega arith) ∙ zero-add k
+part-of bs k l = range-at (suc (length (candidates (pictureOf bs)))) k (omega arith)
 
 -- part 0 is weighed against nothing, and each section against the first forest
 pub data Sides (row inner : List ℕ) : ℕ → List ℕ → List ℕ → Type 0 where

@@ -5,16 +5,15 @@ use mathlib.Core.Bool.{not}
 use mathlib.Core.List.{List, [], _∷_, map}
 use Prim.Native.Nat.{ℕ, _≤_, _<_}
 use native.Mathlib.Omega.{arith}
-use native.Mathlib.Nat.{zero-add}
 use lib.Dec.{eqb, eqb→eq}
 use lib.ListN.{length, getD}
 use Rattle.lists.specs.Lists.{range, on, first}
-use Rattle.lists.specs.Rules.{eachRules, Judged}
+use Rattle.lists.specs.Rules.{Rule, eachRules, Judged}
 use Rattle.lists.proofs.Tests.{eq-T}
 use Rattle.lists.proofs.Faults.{judge-none, Numbered}
 use Rattle.lists.proofs.Rules.{right-then, judged-then, each-judged, each-numbered}
 use Rattle.lists.proofs.Ranges.{length-range}
-use Rattle.lists.proofs.Picks.{getD-range}
+use Rattle.lists.proofs.Picks.{range-at}
 use Rattle.picture.specs.Layout.{Edition, editionOf}
 use Rattle.picture.specs.Picture.{Picture, pictureOf}
 use Rattle.picture.proofs.Accepted.{picture-judged, numbered}
@@ -34,12 +33,15 @@ use Rattle.evidence.proofs.Judging.{forestTest, numbersTest, test-numbe
 -- ---- the sections
 
 module _ (e : Edition) (p : Picture) (ev : List ℕ) where
+  abbrev pub sections : List Rule
+  sections = eachRules (sectionRules e p ev) (range 0 (length (candidates p)))
+
   section-numbered : (i : ℕ) → Numbered (sectionRules e p ev i)
   unfolding sectionRules
   section-numbered i = (λ z. absurd (omega arith), (λ z. absurd (omega arith), tt))
 
-  pub sections-numbered : (is : List ℕ) → Numbered (eachRules (sectionRules e p ev) is)
-  sections-numbered = each-numbered (sectionRules e p ev) section-numbered
+  pub sections-numbered : Numbered sections
+  sections-numbered = each-numbered (sectionRules e p ev) section-numbered (range 0 (length (candidates p)))
 
 module _ {p : Picture} (n : Named p) (e : Edition) (ev : List ℕ) (marks : (i : ℕ) → i < length (candidates p) → sectionIn e (slotCount p) ev i .mark ≤ 1) where
   section-judged : (i : ℕ) → i < length (candidates p) → Judged (sectionRules e p ev i) (sectionFault e p ev (weighings p) i)
@@ -54,11 +56,11 @@ module _ {p : Picture} (n : Named p) (e : Edition) (ev : List ℕ) (marks : (i :
       (λ r. let s = numbers-right n e ev i b (marks i h) r in numbers-test e p ev i w (s .0) (s .1))
       (λ _. judge-none)))
 
-  sections-judged : Judged (eachRules (sectionRules e p ev) (range 0 (length (candidates p)))) (first (map (sectionFault e p ev (weighings p)) (range 0 (length (weighings p)))))
+  sections-judged : Judged (sections e p ev) (first (map (sectionFault e p ev (weighings p)) (range 0 (length (weighings p)))))
   sections-judged =
       rw weighings-length
       (each-judged (sectionRules e p ev) 0 (section-numbered e p ev) (sectionFault e p ev (weighings p)) (range 0 (length (candidates p)))
-      (λ i h. let below : i < length (candidates p) = omega (arith, h, length-range 0 (length (candidates p))) in rw (getD-range 0 0 (length (candidates p)) i below, zero-add i) (section-judged i below)))
+      (λ i h. let below : i < length (candidates p) = omega (arith, h, length-range 0 (length (candidates p))) in rw (range-at (length (candidates p)) i below) (section-judged i below)))
 
 -- ---- the check
 
@@ -73,5 +75,5 @@ check-judged bs ev =
     right-then _ _ (formRight e p ev) _ (λ z. absurd (omega arith)) (right-form e p ev) (form-right e p ev)
     (λ f. right-then _ _ (forestRight p (isHeld p) (firstForest e (slotCount p) ev)) _ (λ z. absurd (omega arith)) (right-kept p _ _) (kept-right p _ _)
     (λ _. right-then _ _ (eqb (headIn ev .served) (servedWeight p)) _ (λ z. absurd (omega arith)) (λ t. right-served n _ (eqb→eq _ _ t)) (λ s. eq-T _ _ (served-right n _ s))
-    (λ _. judged-then _ (sections-judged n e ev (f .marks)) (sections-numbered e p ev (range 0 (length (candidates p))))
+    (λ _. judged-then _ (sections-judged n e ev (f .marks)) (sections-numbered e p ev)
     (λ _. right-then _ _ (verdictRight ev (weighings p)) [] (λ z. absurd (omega arith)) (right-verdict n (candidate-below bs z) ev) (verdict-right n (candidate-below bs z) ev) (λ _. judge-none))))))

@@ -3,14 +3,13 @@ use mathlib.Core.Path.{_≡_}
 use mathlib.Core.List.{List}
 use Prim.Native.Nat.{ℕ, _<_}
 use native.Mathlib.Omega.{arith}
-use native.Mathlib.Nat.{zero-add}
 use lib.ListN.{length, getD}
 use Rattle.lists.specs.Lists.{range}
-use Rattle.lists.specs.Rules.{Rule, eachRules, AllHold, none, more}
+use Rattle.lists.specs.Rules.{AllHold, none, more}
 use Rattle.lists.proofs.Faults.{Numbered, judged-all, all-judged}
 use Rattle.lists.proofs.Rules.{numbered-both, hold-one, hold-left, hold-right, hold-both, hold-each, each-hold}
 use Rattle.lists.proofs.Ranges.{length-range}
-use Rattle.lists.proofs.Picks.{getD-range}
+use Rattle.lists.proofs.Picks.{range-at}
 use Rattle.graph.specs.Kept.{ForestKept}
 use Rattle.picture.specs.Layout.{Edition, editionOf}
 use Rattle.picture.specs.Picture.{Picture, pictureOf}
@@ -22,11 +21,7 @@ use Rattle.network.specs.Tests.{candidates}
 use Rattle.evidence.specs.Contents.{headIn, firstForest}
 use Rattle.evidence.specs.Checks.{checkFault}
 use Rattle.evidence.specs.Rules.{Form, SectionForest, SectionCost, Verdict, sectionRules, evidenceRulesWith, checkRules}
-use Rattle.evidence.proofs.Judged.{check-judged, sections-numbered}
-
--- the rules of all sections
-abbrev sections : Edition → Picture → List ℕ → List Rule
-sections e p ev = eachRules (sectionRules e p ev) (range 0 (length (candidates p)))
+use Rattle.evidence.proofs.Judged.{sections, check-judged, sections-numbered}
 
 -- ---- the check passes exactly where every rule holds
 
@@ -36,7 +31,7 @@ module _ (bs ev : List ℕ) where
   check-numbered =
       let p = pictureOf bs in
       numbered-both (rules bs) _ (numbered bs)
-      (λ z. absurd (omega arith), (λ z. absurd (omega arith), (λ z. absurd (omega arith), numbered-both (sections (editionOf bs) p ev) _ (sections-numbered (editionOf bs) p ev _) (λ z. absurd (omega arith), tt))))
+      (λ z. absurd (omega arith), (λ z. absurd (omega arith), (λ z. absurd (omega arith), numbered-both (sections (editionOf bs) p ev) _ (sections-numbered (editionOf bs) p ev) (λ z. absurd (omega arith), tt))))
 
   pub check-holds : checkFault bs ev ≡ 0 → AllHold (checkRules bs ev)
   check-holds z = judged-all (check-judged bs ev) check-numbered z
@@ -64,10 +59,10 @@ module _ (e : Edition) (p : Picture) (ev : List ℕ) where
   holds-section : AllHold (sections e p ev) → (i : ℕ) → i < length (candidates p) → Section e p ev i (getD (candidates p) i 0)
   unfolding sectionRules
   holds-section a i h =
-      by (rw (getD-range 0 0 (length (candidates p)) i h, zero-add i) at (hold-each (sectionRules e p ev) 0 (range 0 (length (candidates p))) a i (rw length-range h)))
+      named (rw (range-at (length (candidates p)) i h) at (hold-each (sectionRules e p ev) 0 (range 0 (length (candidates p))) a i (rw length-range h)))
     where
-      by : AllHold (sectionRules e p ev i) → Section e p ev i (getD (candidates p) i 0)
-      by (more f (more n none)) = record { forest = f; numbers = n }
+      named : AllHold (sectionRules e p ev i) → Section e p ev i (getD (candidates p) i 0)
+      named (more f (more n none)) = record { forest = f; numbers = n }
 
   section-holds : ((i : ℕ) → i < length (candidates p) → Section e p ev i (getD (candidates p) i 0)) → AllHold (sections e p ev)
   unfolding sectionRules
@@ -75,7 +70,7 @@ module _ (e : Edition) (p : Picture) (ev : List ℕ) where
       each-hold (sectionRules e p ev) 0 (range 0 (length (candidates p)))
       (λ i h.
       let below : i < length (candidates p) = omega (arith, h, length-range 0 (length (candidates p))) in
-      rw (getD-range 0 0 (length (candidates p)) i below, zero-add i) (more (s i below .forest) (more (s i below .numbers) none)))
+      rw (range-at (length (candidates p)) i below) (more (s i below .forest) (more (s i below .numbers) none)))
 
 module _ (bs ev : List ℕ) where
   evidence-passes : pictureFault bs ≡ 0 → AllHold (evidenceRulesWith (editionOf bs) (pictureOf bs) ev) → Passes bs ev

@@ -83,8 +83,9 @@ table =
     -- a picture that the header makes longer than it is, and a fill bit that is set
     ∷ record { question = read (slotsOnly 0x18 240 89); says = 1 ∷ [] }
     ∷ record { question = read (set caseA 26 0x09); says = 7 ∷ [] }
-    -- what a service link names (02, C-14): the first one's location 5 (17) or endpoint 0 (18), the last one's endpoint 3; both of one link
-    -- (17), the endpoint of one and the location of the next (18), and the other way round (17); after the end 5 of a link (6), before a fill bit
+    -- what a service link names (02, C-14): the first one's location 5 (17) or endpoint 0 (18), the last one's endpoint 3 (18); both of the
+    -- first one (17), its endpoint and the second one's location (18), and the other way round (17); either of them after a link's end 5 (6),
+    -- and before a fill bit (17)
     ∷ record { question = read (set caseA 21 0x14); says = 17 ∷ [] }
     ∷ record { question = read (set caseA 22 0x00); says = 18 ∷ [] }
     ∷ record { question = read (set caseA 26 0x0C); says = 18 ∷ [] }
@@ -215,7 +216,7 @@ table =
     ∷ record { question = write (listsOf (pictureOf caseK)) (replicate 27 0xFF); says = 0 ∷ 27 ∷ caseK }
     ∷ record { question = write (listsOf (pictureOf caseM)) (replicate 17 0xFF); says = 0 ∷ 17 ∷ caseM }
     -- and the lists of what the reader refuses get the reader's number: β 3 with n 4, D 201, slot 1 state 3, a link 0 to 5, a service link's
-    -- location 5 or endpoint 0, and both, of one or of two
+    -- location 5 or endpoint 0, both of one, and both of two; a short buffer comes after them
     ∷ record { question = write (listsOf (pictureOf (set caseA 0 0x13))) (replicate 27 0xEE); says = 3 ∷ replicate 27 0xEE }
     ∷ record { question = write (listsOf (pictureOf (set caseA 3 201))) (replicate 27 0xEE); says = 4 ∷ replicate 27 0xEE }
     ∷ record { question = write (listsOf (pictureOf (set caseA 7 0xE4))) (replicate 27 0xEE); says = 5 ∷ replicate 27 0xEE }
@@ -224,6 +225,7 @@ table =
     ∷ record { question = write (listsOf (pictureOf (set caseA 22 0x00))) (replicate 27 0xEE); says = 18 ∷ replicate 27 0xEE }
     ∷ record { question = write (listsOf (pictureOf (set (set caseA 21 0x14) 22 0x00))) (replicate 27 0xEE); says = 17 ∷ replicate 27 0xEE }
     ∷ record { question = write (listsOf (pictureOf (set (set caseA 22 0x00) 23 0x14))) (replicate 27 0xEE); says = 18 ∷ replicate 27 0xEE }
+    ∷ record { question = write (listsOf (pictureOf (set caseA 22 0x00))) (replicate 26 0xEE); says = 18 ∷ replicate 26 0xEE }
     -- columns of unequal length, no lists at all, and values that no field has room for
     ∷ record { question = write (listsWith (true ∷ true ∷ true ∷ []) (true ∷ false ∷ [])) (replicate 27 0xEE); says = 3 ∷ replicate 27 0xEE }
     ∷ record { question = write (listsWith (true ∷ true ∷ true ∷ true ∷ []) (true ∷ false ∷ true ∷ [])) (replicate 27 0xEE); says = 4 ∷ replicate 27 0xEE }

@@ -7,7 +7,7 @@ use mathlib.Core.List.{List, [], _∷_, map}
 use Prim.Native.Nat.{ℕ, zero, suc, _+_, _-_, _≤_, _<_, zero-le, suc-le-suc}
 use native.Mathlib.Omega.{arith}
 use native.Mathlib.Decide.{decLt}
-use native.Mathlib.Nat.{add-zero, add-suc, suc-add, le-of-suc-le-suc, not-suc-le-zero}
+use native.Mathlib.Nat.{zero-add, add-zero, add-suc, suc-add, le-of-suc-le-suc, not-suc-le-zero}
 use lib.Dec.{T}
 use lib.ListN.{length, getD, replicate, List·getD-eq-default}
 use Rattle.lists.specs.Lists.{range, on, sum, item, filter}
@@ -79,6 +79,10 @@ unfolding range
 getD-range d i zero j h = absurd (not-suc-le-zero h)
 getD-range d i (suc k) zero h = sym (add-zero i)
 getD-range d i (suc k) (suc j) h = getD-range d (suc i) k j (le-of-suc-le-suc h) ∙ suc-add i j ∙ sym (add-suc i j)
+
+-- from 0 on each number is its own place
+pub range-at : (k j : ℕ) → j < k → getD (range 0 k) j 0 ≡ j
+range-at k j h = getD-range 0 0 k j h ∙ zero-add j
 
 module _ (f : ℕ → Bool) where
   -- each number that passes is left

@@ -10,23 +10,23 @@ use Rattle.picture.specs.Layout.{editionOf, headerWidths, fieldIn, least
 use Rattle.picture.specs.Picture.{Picture, headerOf, pictureOf}
 use Rattle.picture.specs.Rules.{Sizes, Counts, States, noLink, Links, serviceLinkRules, Ends, listRules, rulesWith, rules}
 
--- the rules of all service links
+-- what the service links keep: the rules of each, by name
 pub record ServiceLinks (n d : ℕ) (p : Picture) : Type 0 where
   pub location : (i : ℕ) → i < length (p .serviceLinks) → getD (p .serviceLinks) i noLink .from ≤ n
   pub endpoint-some : (i : ℕ) → i < length (p .serviceLinks) → 1 ≤ getD (p .serviceLinks) i noLink .to
   pub endpoint-most : (i : ℕ) → i < length (p .serviceLinks) → getD (p .serviceLinks) i noLink .to ≤ d
 
+-- the same as their rules, with other rules behind them
 module _ (n d : ℕ) (p : Picture) (rs : List Rule) where
-  abbrev of-each : List Rule
-  of-each = eachRules (serviceLinkRules n d) (p .serviceLinks)
+  abbrev service-rules : List Rule
+  service-rules = eachRules (serviceLinkRules n d) (p .serviceLinks)
 
-  -- by name, before others
-  pub holds-services : AllHold (of-each ++ rs) → ServiceLinks n d p × AllHold rs
+  pub holds-services : AllHold (service-rules ++ rs) → ServiceLinks n d p × AllHold rs
   unfolding serviceLinkRules
   holds-services a = (
-    let at = hold-each (serviceLinkRules n d) noLink (p .serviceLinks) (hold-left of-each rs a) in
+    let at = hold-each (serviceLinkRules n d) noLink (p .serviceLinks) (hold-left service-rules rs a) in
         record { location = λ i h. location (at i h); endpoint-some = λ i h. endpoint (at i h) .0; endpoint-most = λ i h. endpoint (at i h) .1 },
-    hold-right of-each rs a,
+    hold-right service-rules rs a,
   )
     where
       location : {l : Link} → AllHold (serviceLinkRules n d l) → l .from ≤ n
@@ -35,7 +35,7 @@ module _ (n d : ℕ) (p : Picture) (rs : List Rule) where
       endpoint : {l : Link} → AllHold (serviceLinkRules n d l) → (1 ≤ l .to) × (l .to ≤ d)
       endpoint (more _ (more t none)) = t
 
-  pub services-hold : ServiceLinks n d p → AllHold rs → AllHold (of-each ++ rs)
+  pub services-hold : ServiceLinks n d p → AllHold rs → AllHold (service-rules ++ rs)
   unfolding serviceLinkRules
   services-hold s =
       hold-both

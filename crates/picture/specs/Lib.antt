@@ -1,4 +1,4 @@
--- The definitions that the contracts of `picture` cite. Document 01, "The picture".
+-- The definitions that the contracts of `picture` cite. Document 01, "The picture"; 02, C-14, for what a service link names.
 
 -- To be believed: what 01 says of a picture. The widths of its fields, its parts and its limits; what its bytes say; the rules that it
 -- keeps, with the number of each; and what reading answers, with 01's numbers

@@ -1,4 +1,5 @@
--- The rules of a picture's layout as propositions, with their numbers and in the order of document 01. Assumes nothing.
+-- The rules of a picture's layout as propositions, with their numbers and in the order of document 01, for service links of 02, C-14. Assumes
+-- nothing.
 use mathlib.Core.List.{List, [], _∷_, _++_}
 use mathlib.Core.Path.{_≡_}
 use Prim.Native.Nat.{ℕ, _*_, _/_, _%_, _≤_, _<_}

@@ -1,5 +1,5 @@
-// The numbers of refusals, for every layer, by the names of the header for C. Every call judges the picture first (1 to 7, 17, 18), and write
-// the lists of one (3 to 6, 17, 18).
+// The numbers of refusals, for every layer, by the names of the header for C. Every call judges the picture first (1 to 7, 17 and 18), and
+// write the lists of one (3 to 6, 17 and 18).
 
 // The picture is shorter than a header, or than its header says.
 pub const SHORT: u8 = 1;
