@@ -6,14 +6,18 @@ use mathlib.Core.List.{List, []}
 use Prim.Native.Nat.{ℕ, zero, suc, _+_, _-_, _*_, _^_, _≤_, _<_, zero-le, suc-le-suc}
 use native.Mathlib.Omega.{arith}
 use native.Mathlib.Decide.{ℕ-discrete}
-use lib.Dec.{T}
+use lib.Dec.{T, eqb·suc-zero}
 use lib.ListN.{length, getD, set, replicate, length-set}
 use lib.Seq.{getD-set-same, getD-set-other}
-use Rattle.lists.specs.Lists.{range}
+use Rattle.lists.specs.Lists.{range, any}
 use Rattle.lists.proofs.Ranges.{length-range}
 use Rattle.lists.proofs.Picks.{range-at}
 use Rattle.lists.proofs.Faults.{Clean, scan-begun, scan-miss, scan-hit, scan-ended}
-use Rattle.rows.specs.Rows.{marked, linkedIn, With, Minus, Meet, slotsMax, locationsMax, rowWords}
+use Rattle.rows.specs.Rows.{marked, linkedIn, With, Minus, Meet, slotsMax, locationsMax, marksMax, rowWords}
+use Rattle.rows.specs.declared.Range.{Range}
+use Rattle.rows.specs.Ranges.{inRange, without}
+use Rattle.rows.proofs.Ranges.{any-in-range}
+use Rattle.rows.proofs.Marks.{clear}
 use Rattle.graph.specs.declared.Node.{Node}
 use Rattle.graph.specs.Held.{heldIn}
 use Rattle.graph.specs.Kept.{ForestKept}
@@ -28,7 +32,6 @@ use Rattle.network.specs.Tests.{marks, served, weighed, candidates}
 use Rattle.network.specs.Rows.{RowsOf, SlotRowsOf, EndpointsOf}
 use Rattle.network.proofs.Named.{accepted-named}
 use Rattle.network.proofs.Candidates.{candidates-below}
-use Rattle.rows.proofs.Marks.{clear}
 use Rattle.weigh.specs.declared.Lost.{Lost}
 use Rattle.weigh.specs.Sums.{Small, Meets, LostBetween}
 use Rattle.network.proofs.Blocks.{read-slots, read-block-size, read-endpoints, read-block}
@@ -41,9 +44,9 @@ use Rattle.evidence.proofs.Fields.{candidates-few}
 use Rattle.evidence.proofs.Forests.{test-in, in-test}
 use Rattle.evidence.proofs.Judging.{right-form}
 use Rattle.evidence.proofs.Places.{forest-small}
-use Rattle.checker.specs.Forests.{LeftIn, statedTest, partFault, partsFault, CutsOf}
+use Rattle.checker.specs.Forests.{evictedIn, statedTest, partFault, partsFault, CutsOf}
 use Rattle.checker.proofs.Nodes.{forest-length}
-use Rattle.checker.proofs.Following.{Followed, Closed, node-broken, link-broken, inner-in, forest-kept}
+use Rattle.checker.proofs.Following.{Followed, Closed, node-broken, evicted-broken, link-broken, inner-in, forest-kept}
 use Rattle.checker.proofs.Parts.{blockAt, heldAt, statedAt, part-broken, part-wrong, part-right, formed-block, held-found, stated-found}
 
 -- the parts of evidence
@@ -127,25 +130,32 @@ pub record Gone (x : Given) (row : List ℕ) (k : ℕ) : Type 0 where
 abbrev pub Counted : Given → List ℕ → ℕ → Type 0
 Counted x cuts k = CutsOf (pic x) cuts (k - 1)
 
--- part k is at hand: its forest starts at bit q, and this is held in it
-pub record PartAt (x : Given) (row : List ℕ) (k q : ℕ) (left : List ℕ) : Type 0 where
+-- part k is at hand: its forest starts at bit q, and these slots are evicted in it
+pub record PartAt (x : Given) (row : List ℕ) (k q : ℕ) (evicted : Range) : Type 0 where
   pub gone : Gone x row k
   pub most : k ≤ x .count
   pub at : q ≡ forestAt edition1 (x .n) k
   pub small : q < 2 ^ 20
-  pub holding : LeftIn (x .held) (x .size) (sectionIn edition1 (x .n) (x .ev) (k - 1) .block) k left
+  pub slots : evicted ≡ evictedIn (x .size) (sectionIn edition1 (x .n) (x .ev) (k - 1) .block) k
+  pub low : evicted .last < marksMax
 
--- the slots of its forest were followed: these are in it, and these are held outside it
-pub record Inside (x : Given) (row : List ℕ) (k : ℕ) (inner outer : List ℕ) : Type 0 where
+-- the slots of its forest were followed: these are in it, and these are held and not in it
+pub record Inside (x : Given) (row : List ℕ) (k : ℕ) (evicted : Range) (inner outer : List ℕ) : Type 0 where
   pub q : ℕ
-  pub left : List ℕ
   pub slots : List ℕ
-  pub part : PartAt x row k q left
+  pub part : PartAt x row k q evicted
   pub with : With slots 0 inner
-  pub minus : Minus left inner outer
+  pub minus : Minus (x .held) inner outer
   pub v : ℕ
-  pub followed : Followed (x .links) left (forestIn edition1 (x .n) (x .ev) q) slots v
+  pub followed : Followed (x .links) (heldIn (x .held)) (forestIn edition1 (x .n) (x .ev) q) slots v
   pub ended : x .n < v
+  pub apart : (u : ℕ) → T (inRange evicted u) → ¬ T (marked slots u)
+
+-- the slots that are evicted have a place in rows
+evicted-low : (size b k : ℕ) → (1 ≤ k → b * size + size ≤ slotsMax) → evictedIn size b k .last < marksMax
+unfolding evictedIn
+evicted-low size b zero h = omega arith
+evicted-low size b (suc i) h = rw (eqb·suc-zero i) (omega (arith, h (suc-le-suc zero-le)))
 
 -- ---- the tables
 
@@ -204,11 +214,12 @@ module _ {x : Given} where
       scan-ended (faultOf x) 0 (parts (x .bs)) k (g .clean) (omega (arith, length-range 0 (suc (length (candidates (pic x)))), g .tables .counted))
 
   -- a part is at hand
-  pub part-begun : {row : List ℕ} {k q : ℕ} {left : List ℕ} → Gone x row k → k ≤ x .count → q ≡ forestAt edition1 (x .n) k
-      → LeftIn (x .held) (x .size) (sectionIn edition1 (x .n) (x .ev) (k - 1) .block) k left → PartAt x row k q left
-  part-begun {k = k} g l e h =
+  pub part-begun : {row : List ℕ} {k q : ℕ} {evicted : Range} → Gone x row k → k ≤ x .count → q ≡ forestAt edition1 (x .n) k
+      → evicted ≡ evictedIn (x .size) (sectionIn edition1 (x .n) (x .ev) (k - 1) .block) k → PartAt x row k q evicted
+  part-begun {k = k} {evicted = evicted} g l e h =
       let t = g .tables in
-      record { gone = g; most = l; at = e; small = omega (arith, forest-small (x .n) k (t .few-slots) (omega (arith, t .few-parts))); holding = h }
+      let last : evicted .last < marksMax = rw h (evicted-low (x .size) (sectionIn edition1 (x .n) (x .ev) (k - 1) .block) k (λ s. t .room k s l)) in
+      record { gone = g; most = l; at = e; small = omega (arith, forest-small (x .n) k (t .few-slots) (omega (arith, t .few-parts))); slots = h; low = last }
 
   module _ (t : Tables x) {row inner : List ℕ} where
     sums-found : {k : ℕ} {before after : List ℕ} {lost : Lost} → Sides row inner k before after → Serves x (heldAt (pic x) k) inner
@@ -233,7 +244,7 @@ module _ {x : Given} where
     still whole now r = now
     still less now r = r (suc-le-suc zero-le)
 
-  module _ {row : List ℕ} {k q : ℕ} {left : List ℕ} (a : PartAt x row k q left) where
+  module _ {row : List ℕ} {k q : ℕ} {evicted : Range} (a : PartAt x row k q evicted) where
     abbrev t : Tables x
     t = a .gone .tables
 
@@ -251,21 +262,26 @@ module _ {x : Given} where
         (e ∙ ap (faultOf x) (sym (part-of (x .bs) k most))) z
 
     -- the rows say what the picture says
-    same : ForestKept (linkedIn (x .links)) (heldIn left) (x .n) es ≡ Kept x k
+    same : ForestKept (linkedIn (x .links)) (without evicted (heldIn (x .held))) (x .n) es ≡ Kept x k
     same =
         let links-same : linkedIn (x .links) ≡ joins (pic x .links) = fun-ext (λ u. fun-ext (λ v. t .link-rows .same u v)) in
-        let holds = held-found (x .bs) (x .ev) (t .many) (t .form) (t .slots) k most (rw (← t .block-size) at (a .holding)) in
-        let held-same : heldIn left ≡ heldAt (pic x) k = fun-ext holds in
+        let holds = held-found (x .bs) (x .ev) (t .many) (t .form) (t .slots) k most in
+        let held-same : without evicted (heldIn (x .held)) ≡ heldAt (pic x) k = rw (a .slots, ← t .block-size) (fun-ext holds) in
         rw (links-same, held-same, a .at)
 
-    broken : ¬ ForestKept (linkedIn (x .links)) (heldIn left) (x .n) es → 14 ≡ partsFault (x .bs) (x .ev)
+    broken : ¬ ForestKept (linkedIn (x .links)) (without evicted (heldIn (x .held))) (x .n) es → 14 ≡ partsFault (x .bs) (x .ev)
     broken b = stopped (λ z. absurd (omega arith)) (part-broken (x .bs) (x .ev) (t .many) k most (λ y. b (rw same y)))
 
     -- a slot breaks its rule
-    pub part-node : {v : ℕ} → 1 ≤ v → v ≤ x .n → nodeRight (linkedIn (x .links)) (heldIn left) es v ≡ false → 14 ≡ partsFault (x .bs) (x .ev)
-    part-node l m e = broken (node-broken (linkedIn (x .links)) (heldIn left) es l m e)
+    pub part-node : {v : ℕ} → 1 ≤ v → v ≤ x .n → nodeRight (linkedIn (x .links)) (heldIn (x .held)) es v ≡ false → 14 ≡ partsFault (x .bs) (x .ev)
+    part-node l m e = broken (node-broken (linkedIn (x .links)) (heldIn (x .held)) evicted es l m e)
 
-  module _ {row : List ℕ} {k : ℕ} {inner outer : List ℕ} (i : Inside x row k inner outer) where
+    -- an evicted slot is in the forest
+    pub part-evicted : {slots : List ℕ} {v : ℕ} → Followed (x .links) (heldIn (x .held)) es slots v → x .n < v → T (any (marked slots) (range (evicted .after + 1) (evicted .last - evicted .after)))
+        → 14 ≡ partsFault (x .bs) (x .ev)
+    part-evicted f e t = let s = any-in-range evicted _ t in broken (evicted-broken (x .held) evicted (forest-length (x .n) (x .ev) q) f e (s .0) (s .1) (s .2))
+
+  module _ {row : List ℕ} {k : ℕ} {evicted : Range} {inner outer : List ℕ} (i : Inside x row k evicted inner outer) where
     abbrev g : Gone x row k
     g = i .part .gone
 
@@ -273,20 +289,20 @@ module _ {x : Given} where
     len = forest-length (x .n) (x .ev) (i .q)
 
     -- a link leads out of the forest
-    pub part-link : (u : ℕ) → T (marked inner u) → Meet (getD (x .links) u []) outer true → 14 ≡ partsFault (x .bs) (x .ev)
-    part-link u m y = broken (i .part) (link-broken len (i .with) (i .minus) (i .followed) (i .ended) u m y)
+    pub part-link : (u : ℕ) → T (marked inner u) → Meet (marked (getD (x .links) u [])) (without evicted (marked outer)) true → 14 ≡ partsFault (x .bs) (x .ev)
+    part-link u m y = broken (i .part) (link-broken (x .held) evicted len (i .followed) (i .ended) (i .with) (i .minus) u m y)
 
-    module _ {a : ℕ} (c : Closed (x .links) inner outer a) (looked : x .n < a) {before after : List ℕ} (y : Sides row inner k before after) {lost : Lost}
+    module _ {a : ℕ} (c : Closed (x .links) inner (without evicted (marked outer)) a) (looked : x .n < a) {before after : List ℕ} (y : Sides row inner k before after) {lost : Lost}
         (s : LostBetween (x .services) (x .weights) (x .guarded) (x .d) before after lost) where
       kept : Kept x k
       kept =
           let low : (u v : ℕ) → T (linkedIn (x .links) u v) → u ≤ x .n =
           λ u v j. omega (arith, g .tables .many, g .tables .named .links u v (subst T (g .tables .link-rows .same u v) j) .0) in
-          rw (same (i .part)) at (forest-kept len (i .with) (i .minus) (i .followed) (i .ended) low c looked)
+          rw (same (i .part)) at (forest-kept (x .held) evicted len (i .followed) (i .ended) (i .with) (i .minus) (i .apart) low c looked)
 
       now : Serves x (heldAt (pic x) k) inner
       now =
-          let here = inner-in len (i .with) (i .minus) (i .followed) (i .ended) in
+          let here = inner-in (x .held) evicted len (i .followed) (i .ended) (i .with) (i .minus) in
           let fit = rw (← i .part .at) at kept in
           serving (pic x) (heldAt (pic x) k) (g .tables .named) (g .tables .service-rows) (λ v z. kept-reached fit len v (test-in _ v (subst T (here v) z)))
           (λ v z. subst T (sym (here v)) (in-test _ v (reached-kept fit z)))

@@ -2,6 +2,7 @@
 pub mod Nodes
 pub mod Forms
 pub mod Verdicts
+pub mod Outside
 pub mod Following
 pub mod Parts
 pub mod Going

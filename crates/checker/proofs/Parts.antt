@@ -1,5 +1,5 @@
 -- The parts of evidence: what is held in them, what they are to state, and their faults. Assumes nothing.
-use mathlib.Core.Path.{_≡_, refl, sym, ap, _∙_}
+use mathlib.Core.Path.{_≡_, sym, _∙_}
 use mathlib.Core.Bool.{Bool, true, false, not}
 use mathlib.Core.List.{List, [], _∷_}
 use Prim.Native.Nat.{ℕ, zero, suc, _-_, _≤_, zero-le, suc-le-suc}
@@ -11,6 +11,7 @@ use Rattle.lists.proofs.Tests.{is-false}
 use Rattle.lists.proofs.Tests.{is-true}
 use Rattle.graph.specs.declared.Node.{Node}
 use Rattle.graph.specs.Held.{heldIn}
+use Rattle.rows.specs.Ranges.{without}
 use Rattle.graph.specs.Kept.{ForestKept}
 use Rattle.picture.specs.Layout.{edition1}
 use Rattle.picture.specs.Picture.{Picture, pictureOf}
@@ -18,7 +19,7 @@ use Rattle.network.specs.Words.{slotCount, isHeld, heldWithout, joins}
 use Rattle.network.specs.Tests.{weighed, servedWeight, candidates}
 use Rattle.network.specs.Rows.{SlotRowsOf}
 use Rattle.network.proofs.Weights.{weighed-block}
-use Rattle.weigh.proofs.Serving.{left-held}
+use Rattle.weigh.proofs.Serving.{now-held, left-held}
 use Rattle.evidence.specs.declared.Stated.{Stated}
 use Rattle.evidence.specs.Layout.{forestAt}
 use Rattle.evidence.specs.Canonical.{statedOf}
@@ -27,7 +28,7 @@ use Rattle.evidence.specs.Checks.{forestRight, sectionFault}
 use Rattle.evidence.specs.Rules.{Form}
 use Rattle.evidence.proofs.Forests.{right-kept, kept-right}
 use Rattle.evidence.proofs.Weighings.{weighing-at}
-use Rattle.checker.specs.Forests.{LeftIn, statedTest, partFault}
+use Rattle.checker.specs.Forests.{evictedIn, statedTest, partFault}
 
 -- the block that section i evicts
 abbrev pub blockAt : Picture → ℕ → ℕ
@@ -85,13 +86,11 @@ module _ (bs ev : List ℕ) {n : ℕ} (many : slotCount (pictureOf bs) ≡ n) wh
     pub formed-block : (i : ℕ) → suc i ≤ length (candidates p) → sectionIn edition1 n ev i .block ≡ blockAt p i
     formed-block i l = rw (← many) (form .blocks i l)
 
-    pub held-found : {row near : List ℕ} → SlotRowsOf p row near → (k : ℕ) → k ≤ length (candidates p) → {left : List ℕ}
-        → LeftIn row (p .blockSize) (sectionIn edition1 n ev (k - 1) .block) k left → (v : ℕ) → heldIn left v ≡ heldAt p k v
-    unfolding heldAt
-    held-found s zero l h v = ap (λ (r : List ℕ). heldIn r v) (h .whole refl) ∙ s .held v
-    held-found s (suc i) l h v =
-        let k = h .less (suc-le-suc zero-le) in
-        left-held p (blockAt p i) _ _ (k .0) _ s (rw (sub-one (suc i), formed-block i l) at (k .1)) (k .2) v
+    pub held-found : {row near : List ℕ} → SlotRowsOf p row near → (k : ℕ) → k ≤ length (candidates p)
+        → (v : ℕ) → without (evictedIn (p .blockSize) (sectionIn edition1 n ev (k - 1) .block) k) (heldIn row) v ≡ heldAt p k v
+    unfolding heldAt evictedIn
+    held-found s zero l v = now-held s v
+    held-found s (suc i) l v = rw (eqb·suc-zero i, sub-one (suc i), formed-block i l) (left-held s (blockAt p i) v)
 
   pub stated-found : (k : ℕ) {w m : ℕ} → w ≡ statedAt p k .loss → (1 ≤ k → m ≡ statedAt p k .mark) → statedTest n ev k w m ≡ statedRight k
   unfolding statedTest

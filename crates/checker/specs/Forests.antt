@@ -2,17 +2,18 @@
 use mathlib.Core.Path.{_≡_}
 use mathlib.Core.Bool.{Bool, not, _&&_, cond}
 use mathlib.Core.List.{List, [], _∷_, map}
-use Prim.Native.Nat.{ℕ, zero, suc, _+_, _-_, _*_, _≤_, _<_}
+use Prim.Native.Nat.{ℕ, zero, suc, _+_, _-_, _*_, _<_}
 use lib.Dec.{eqb}
 use lib.ListN.{length, getD}
 use Rattle.lists.specs.Lists.{range, on, first, sum}
-use Rattle.rows.specs.Rows.{Minus}
+use Rattle.rows.specs.declared.Range.{Range}
+use Rattle.rows.specs.Ranges.{noRange}
 use Rattle.graph.specs.declared.Node.{Node}
 use Rattle.picture.specs.Layout.{edition1, editionOf, blocksMax}
 use Rattle.picture.specs.Picture.{Picture, pictureOf}
 use Rattle.network.specs.Words.{slotCount, isHeld}
 use Rattle.network.specs.Tests.{servedWeight, weighed, candidates}
-use Rattle.network.specs.Rows.{BlockRow}
+use Rattle.network.specs.Rows.{blockRange}
 use Rattle.evidence.specs.declared.Stated.{Stated}
 use Rattle.evidence.specs.Layout.{nodeWidths}
 use Rattle.evidence.specs.Canonical.{weighings}
@@ -25,10 +26,9 @@ nodeFrom ev q v = nodeAt edition1 ev (q + (v - 1) * sum (nodeWidths edition1))
 
 -- ---- the parts of evidence: part 0 is the first forest with the served weight, part i + 1 is section i
 
--- what is held in part k: all that is held, less block b in a section
-pub record LeftIn (row : List ℕ) (size b k : ℕ) (left : List ℕ) : Type 0 where
-  pub whole : k ≡ 0 → left ≡ row
-  pub less : 1 ≤ k → (block : List ℕ) × BlockRow size b block × Minus row block left
+-- the slots that are evicted in part k: none in the first forest, those of block b in a section
+unfoldable pub evictedIn : ℕ → ℕ → ℕ → Range
+evictedIn size b k = cond (eqb k 0) noRange (blockRange size b)
 
 -- the weight and the mark that part k states: the served weight, or the loss and the mark of a section
 unfoldable pub statedTest : ℕ → List ℕ → ℕ → ℕ → ℕ → Bool

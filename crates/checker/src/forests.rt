@@ -4,7 +4,8 @@ ghost use mathlib.Core.Bool.{true};
 ghost use mathlib.Core.List.{List};
 ghost use Prim.Native.Nat.{ℕ, _+_, _-_, _*_, _^_, _≤_, _<_};
 ghost use lib.ListN.{length};
-ghost use Rattle.rows.specs.Rows.{linkedIn, locationsMax, slotsMax};
+ghost use Rattle.rows.specs.Rows.{marked, linkedIn, Meet, locationsMax, rowWords, slotsMax};
+ghost use Rattle.rows.specs.Ranges.{without};
 ghost use Rattle.graph.specs.Held.{heldIn};
 ghost use Rattle.picture.specs.Layout.{edition1, blocksMax};
 ghost use Rattle.picture.specs.Picture.{pictureOf};
@@ -13,7 +14,7 @@ ghost use Rattle.network.specs.Tests.{candidates};
 ghost use Rattle.network.specs.Rows.{SlotRowsOf};
 ghost use Rattle.evidence.specs.Contents.{sectionIn, forestIn};
 ghost use Rattle.evidence.specs.Checks.{nodeRight, formRight};
-ghost use Rattle.checker.specs.Forests.{nodeFrom, LeftIn, statedTest, partsFault, CutsOf};
+ghost use Rattle.checker.specs.Forests.{nodeFrom, evictedIn, statedTest, partsFault, CutsOf};
 use evidence::NODE_BITS;
 use graph::Node;
 use network::ENDPOINTS;
@@ -23,6 +24,7 @@ use picture::LOCATION_BITS;
 use picture::refusals::FOREST;
 use picture::refusals::WEIGHT;
 use rows::LOCATIONS;
+use rows::Range;
 use rows::WORDS;
 use weigh::Lost;
 
@@ -38,7 +40,7 @@ fn node_at(ev: &[u8], q: usize, v: usize) -> Node
     }
 }
 
-// Whether the node x of slot v keeps its rule in the forest that starts at bit q.
+// Whether the node x of slot v keeps its rule in the forest that starts at bit q, where nothing is evicted.
 fn node_right(
     links: &[[u64; WORDS]; LOCATIONS],
     held: &[u64; WORDS],
@@ -78,16 +80,42 @@ fn node_right(
     above + 1 == depth
 }
 
-// The held slots of part k: all of them, less those of the block that a section evicts.
-fn held_in(held: [u64; WORDS], size: usize, ev: &[u8], n: usize, k: usize) -> [u64; WORDS]
+// The slots that are evicted in part k: those of a section's block.
+fn evicted_in(size: usize, ev: &[u8], n: usize, k: usize) -> Range
     requires { ⌜ (n ≤ slotsMax) × (k ≤ 255) × (1 ≤ k → sectionIn edition1 n (now ev) (k - 1) .block * size + size ≤ slotsMax) ⌝ }
-    ensures { λ r. ⌜ LeftIn held size (sectionIn edition1 n (now (ev .entry)) (k - 1) .block) k r ⌝ }
+    ensures { λ r. ⌜ r ≡ evictedIn size (sectionIn edition1 n (now (ev .entry)) (k - 1) .block) k ⌝ }
 {
     if k == 0 {
-        return held;
+        return rows::no_range();
     }
-    let b = evidence::section_of(ev, n, k - 1).block;
-    rows::minus(held, network::block_row(size, b))
+    network::block_range(size, evidence::section_of(ev, n, k - 1).block)
+}
+
+// Whether two rows have a mark in common that is not of an evicted slot.
+fn meet_unevicted(row: &[u64; WORDS], other: &[u64; WORDS], evicted: Range) -> bool
+    requires { ⌜ length (now other) ≡ rowWords ⌝ }
+    ensures { λ r. ⌜ Meet (marked (now (row .entry))) (without evicted (marked (now (other .entry)))) r ⌝ }
+{
+    let mut i: usize = 0;
+    while i < WORDS {
+        if rows::leave_out(row[i] & other[i], i * 64, evicted) != 0 {
+            return true;
+        }
+        i += 1;
+    }
+    false
+}
+
+// The same for a location's row of links and what is held outside the forest. Most rows lead to nothing there, so the first look is the only
+// one.
+fn leads_out(row: &[u64; WORDS], outside: &[u64; WORDS], evicted: Range) -> bool
+    requires { ⌜ length (now outside) ≡ rowWords ⌝ }
+    ensures { λ r. ⌜ Meet (marked (now (row .entry))) (without evicted (marked (now (outside .entry)))) r ⌝ }
+{
+    if rows::meet(*row, *outside) {
+        return meet_unevicted(row, outside, evicted);
+    }
+    false
 }
 
 // Whether part k states this weight and mark: the served weight, or the loss and the mark of a section.
@@ -138,12 +166,12 @@ pub fn parts_fault(
     let mut k: usize = 0;
     'check: while k <= count {
         let q = evidence::forest_at(n, k);
-        let left = held_in(held, size, ev, n, k);
+        let evicted = evicted_in(size, ev, n, k);
         let mut slots = none;
         let mut v: usize = 1;
         while v <= n {
             let x = node_at(ev, q, v);
-            let right = node_right(&links, &left, ev, q, n, v, x);
+            let right = node_right(&links, &held, ev, q, n, v, x);
             if !right {
                 fault = FOREST;
                 break 'check;
@@ -153,18 +181,22 @@ pub fn parts_fault(
             }
             v += 1;
         }
+        // The rules of the slots were judged as if nothing were evicted.
+        if rows::marks_any(&slots, evicted) {
+            fault = FOREST;
+            break 'check;
+        }
         let mut inside = slots;
         rows::add(&mut inside, 0);
-        let outside = rows::minus(left, inside);
-        // Where nothing is outside, no link leads there, and none need be looked at.
-        let mut a: usize = 0;
-        if rows::none_marked(outside) {
-            a = n + 1;
+        let outside = rows::minus(held, inside);
+        // Where only evicted slots are outside, no link that counts leads there, and none need be looked at.
+        let mut a: usize = n + 1;
+        if meet_unevicted(&outside, &outside, evicted) {
+            a = 0;
         }
         while a <= n {
             if rows::has(&inside, a) {
-                let row = links[a];
-                if rows::meet(row, outside) {
+                if leads_out(&links[a], &outside, evicted) {
                     fault = FOREST;
                     break 'check;
                 }

@@ -5,36 +5,29 @@ use Prim.Native.Nat.{ℕ, _*_, _<_}
 use native.Mathlib.Omega.{arith}
 use lib.ListN.{length}
 use Rattle.packing.specs.Holding.{Put}
-use Rattle.rows.specs.Rows.{marked, linkedIn, Minus, locationsMax}
+use Rattle.rows.specs.Rows.{marked, linkedIn, locationsMax}
+use Rattle.rows.specs.Ranges.{without}
 use Rattle.graph.specs.Held.{heldIn}
 use Rattle.graph.specs.Steps.{Walked}
 use Rattle.picture.specs.declared.Header.{Header}
 use Rattle.picture.specs.Layout.{edition1}
 use Rattle.picture.specs.Picture.{Picture, pictureOf}
-use Rattle.picture.specs.Inner.{Read}
 use Rattle.picture.proofs.Facts.{read-limited}
 use Rattle.network.specs.declared.Cost.{Cost}
 use Rattle.network.specs.Words.{blockCount, heldWithout, joins}
 use Rattle.network.specs.Tests.{weighed}
-use Rattle.network.specs.Rows.{SlotRowsOf, BlockRow}
+use Rattle.network.specs.Rows.{SlotRowsOf, blockRange}
 use Rattle.network.proofs.Named.{accepted-named}
 use Rattle.network.proofs.Weights.{mark-le, weighed-block}
 use Rattle.weigh.specs.declared.Lost.{Lost}
 use Rattle.weigh.specs.Sums.{LostBetween}
 use Rattle.network.proofs.Blocks.{read-block-size, read-endpoints}
-use Rattle.weigh.proofs.Serving.{walked-over, left-slots, left-held, walk-meets, loss-met, cuts-met, mark-met}
+use Rattle.weigh.proofs.Serving.{left-walked, walk-meets, loss-met, cuts-met, mark-met}
 use Rattle.evidence.specs.Canonical.{sectionFields}
 use Rattle.evidence.proofs.Fields.{blocks-small, loss-small}
 use Rattle.choose.specs.Writing.{arraySection, SectionFits}
-use Rattle.choose.specs.Sections.{WeighRows, Left, Room, SectionDone}
+use Rattle.choose.specs.Sections.{WeighRows, Room, SectionDone}
 use Rattle.choose.proofs.Nodes.{walked-nodes}
-
--- what is held without a block, by the block's row
-pub read-left : {bs : List ℕ} {h : Header} {b : ℕ} {holding nearby row rest : List ℕ} → Read bs h → SlotRowsOf (pictureOf bs) holding nearby
-    → BlockRow (h .«block_size») b row → Minus holding row rest → Left (pictureOf bs) b rest
-read-left {bs} {h} {b} {row = row} r s k m =
-    let own : BlockRow (pictureOf bs .blockSize) b row = rw (read-block-size bs h r) k in
-    record { slots = left-slots _ _ _ _ _ _ s own m; held = left-held _ _ _ _ _ _ s own m }
 
 module _ {bs : List ℕ} {h : Header} {links services : List (List ℕ)} {weights guarded reached : List ℕ}
     (r : WeighRows bs h links services weights guarded reached) where
@@ -58,21 +51,22 @@ module _ {bs : List ℕ} {h : Header} {links services : List (List ℕ)} {weight
         more-depths = omega arith;
       })
 
-  -- with the walk over what is left, and the sums of what is lost
-  module _ {b : ℕ} {gone : Lost} {left still ps ds : List ℕ} (l : Left (pictureOf bs) b left) (w : Walked (linkedIn links) (heldIn left) (marked still) ps ds)
+  -- with the walk without the block, and the sums of what is lost
+  module _ (b : ℕ) {gone : Lost} {holding nearby still ps ds : List ℕ} (l : SlotRowsOf (pictureOf bs) holding nearby)
+      (w : Walked (linkedIn links) (without (blockRange (h .«block_size») b) (heldIn holding)) (marked still) ps ds)
       (s : LostBetween services weights guarded (h .endpoints) reached still gone) where
     abbrev cost : Cost
     cost = record { block = b; loss = gone .weight; cuts = gone .count; mark = gone .mark }
 
-    left-walked : Walked (joins (p .links)) (heldWithout p b) (marked still) ps ds
-    left-walked = walked-over p _ links left _ ps ds (r .links) (l .held) w
+    rest : Walked (joins (p .links)) (heldWithout p b) (marked still) ps ds
+    rest = left-walked l (r .links) b (read-block-size bs h (r .read)) w
 
     pub lost-cost : cost ≡ weighed (pictureOf bs) b
     lost-cost =
         let named = accepted-named bs (r .read .accepted) in
         let count = read-endpoints bs h (r .read) in
         let now = walk-meets named (r .services) (r .now) in
-        let left = walk-meets named (r .services) left-walked in
+        let left = walk-meets named (r .services) rest in
         let lost = loss-met (r .ends) count now b left s in
         let many = cuts-met (r .ends) count now b left s in
         let told = mark-met (r .ends) count now b left s in
@@ -80,7 +74,7 @@ module _ {bs : List ℕ} {h : Header} {links services : List (List ℕ)} {weight
 
     section-same : arraySection cost ps ds (h .slots) ≡ sectionFields edition1 p (weighed p b)
     unfolding arraySection sectionFields
-    section-same = rw (← lost-cost, walked-nodes ps ds (r .read) left-walked)
+    section-same = rw (← lost-cost, walked-nodes ps ds (r .read) rest)
 
     pub section-done : {at : ℕ} {buf buf′ : List ℕ} → Put buf (at * 8) (arraySection cost ps ds (h .slots)) buf′
         → SectionDone (pictureOf bs) b at buf buf′ cost

@@ -6,14 +6,13 @@ use lib.ListN.{length}
 use Rattle.lists.specs.Lists.{flat}
 use Rattle.packing.specs.Holding.{Put}
 use Rattle.rows.specs.Rows.{marked, locationsMax}
-use Rattle.graph.specs.Held.{heldIn, SlotsOnly}
 use Rattle.graph.specs.Steps.{Walked}
 use Rattle.picture.specs.declared.Header.{Header}
 use Rattle.picture.specs.Layout.{edition1, endpointsMax}
 use Rattle.picture.specs.Picture.{Picture, pictureOf}
 use Rattle.picture.specs.Inner.{Read}
 use Rattle.network.specs.declared.Cost.{Cost}
-use Rattle.network.specs.Words.{blockCount, isHeld, heldWithout, joins}
+use Rattle.network.specs.Words.{blockCount, isHeld, joins}
 use Rattle.network.specs.Tests.{weighed, candidates}
 use Rattle.network.specs.Rows.{RowsOf, SlotRowsOf, EndpointsOf}
 use Rattle.evidence.specs.declared.Choice.{Choice}
@@ -41,22 +40,18 @@ pub record WeighRows (bs : List ℕ) (h : Header) (linkTable serviceTable : List
   pub depths : List ℕ
   pub now : Walked (joins (pictureOf bs .links)) (isHeld (pictureOf bs)) (marked reached) parents depths
 
--- a row of the slots that are held without block b
-pub record Left (p : Picture) (b : ℕ) (left : List ℕ) : Type 0 where
-  pub slots : SlotsOnly left
-  pub held : (v : ℕ) → heldIn left v ≡ heldWithout p b v
-
 -- there is room for c sections from byte q on; the bound keeps a bit's place in the numbers of the code
 pub record Room (n q c : ℕ) (bs : List ℕ) : Type 0 where
   pub fits : q + c * sectionBytes edition1 n ≤ length bs
   pub low : q + c * sectionBytes edition1 n ≤ evidenceMax
 
 -- what a section needs: the rows of some picture, a block, and room
-pub record SectionReady (h : Header) (linkTable serviceTable : List (List ℕ)) (weights guarded reached rest : List ℕ) (b q : ℕ) (buf : List ℕ) : Type 0 where
+pub record SectionReady (h : Header) (linkTable serviceTable : List (List ℕ)) (weights guarded reached holding : List ℕ) (b q : ℕ) (buf : List ℕ) : Type 0 where
   pub bytes : List ℕ
   pub rows : WeighRows bytes h linkTable serviceTable weights guarded reached
   pub block : b < blockCount (pictureOf bytes)
-  pub left : Left (pictureOf bytes) b rest
+  pub nearby : List ℕ
+  pub slots : SlotRowsOf (pictureOf bytes) holding nearby
   pub room : Room (h .slots) q 1 buf
 
 -- the section of block b stands from byte q on, and its cost is told

@@ -14,7 +14,7 @@ ghost use Rattle.evidence.specs.Canonical.{headFields, forestFields, evidenceOf
 ghost use Rattle.evidence.specs.Calls.{lengthFor, chooseFault, chosenBytes};
 ghost use Rattle.choose.specs.Answers.{choosing, choosingNumbers};
 ghost use Rattle.choose.specs.Writing.{nodesIn, arraySection, SectionFits, HeadFits};
-ghost use Rattle.choose.specs.Sections.{Planned, WeighRows, Left, SectionReady, SectionDone, SectionsReady, Sectioned, EvidenceReady};
+ghost use Rattle.choose.specs.Sections.{Planned, WeighRows, SectionReady, SectionDone, SectionsReady, Sectioned, EvidenceReady};
 use evidence::BLOCK_AT;
 use evidence::BLOCK_BITS;
 use evidence::BYTE_BITS;
@@ -57,8 +57,8 @@ pub struct Plan {
     pub length: usize,
 }
 
-// Parent and depth of each slot, a byte each, from byte `at` on.
-fn put_forest(buf: &mut [u8], at: usize, n: usize, parent: &[u8], depth: &[u8])
+// Parent and depth of each slot, a byte each, from byte `at` on. They have one lifetime, so that two fields of one forest can be lent.
+fn put_forest<'a>(buf: &mut [u8], at: usize, n: usize, parent: &'a [u8], depth: &'a [u8])
     requires { ⌜ (at + n * 2 ≤ length (now buf)) × (n < length (now parent)) × (n < length (now depth)) ⌝ }
     ensures { λ _.
         ⌜ Put (now (buf .entry)) (at * 8) (forestFields edition1 (nodesIn (now (parent .entry)) (now (depth .entry)) n)) (now (buf .exit)) ⌝ }
@@ -109,7 +109,7 @@ pub fn make_plan(s: &[u8], h: Header) -> Plan
 }
 
 // A section from byte `at` on: block, loss and mark, then the forest.
-fn put_section(buf: &mut [u8], at: usize, n: usize, w: Cost, parent: &[u8], depth: &[u8])
+fn put_section<'a>(buf: &mut [u8], at: usize, n: usize, w: Cost, parent: &'a [u8], depth: &'a [u8])
     requires { ⌜ SectionFits at n w (now parent) (now depth) (now buf) ⌝ }
     ensures { λ _. ⌜ Put (now (buf .entry)) (at * 8) (arraySection w (now (parent .entry)) (now (depth .entry)) n) (now (buf .exit)) ⌝ }
 {
@@ -120,7 +120,7 @@ fn put_section(buf: &mut [u8], at: usize, n: usize, w: Cost, parent: &[u8], dept
     put_forest(buf, at + SECTION_HEAD_BYTES, n, parent, depth);
 }
 
-// The section of candidate b from byte `at` on, and what giving it up costs; `left` marks the slots that are held then.
+// The section of candidate b from byte `at` on, and what giving it up costs.
 fn add_section(
     buf: &mut [u8],
     at: usize,
@@ -131,20 +131,18 @@ fn add_section(
     weights: &[u32; ENDPOINTS],
     protected: [u64; WORDS],
     reached: [u64; WORDS],
-    left: [u64; WORDS],
+    held: [u64; WORDS],
 ) -> Cost
-    requires { ⌜ SectionReady h (now links) (now services) (now weights) protected reached left b at (now buf) ⌝ }
+    requires { ⌜ SectionReady h (now links) (now services) (now weights) protected reached held b at (now buf) ⌝ }
     ensures { λ r.
-        ⌜ ((bs : List ℕ) → WeighRows bs h (now (links .entry)) (now (services .entry)) (now (weights .entry)) protected reached
-        → Left (pictureOf bs) b left
+        ⌜ ((bs near : List ℕ) → WeighRows bs h (now (links .entry)) (now (services .entry)) (now (weights .entry)) protected reached
+        → SlotRowsOf (pictureOf bs) held near
         → SectionDone (pictureOf bs) b at (now (buf .entry)) (now (buf .exit)) r) ⌝ }
 {
     let n = h.slots;
     let d = h.endpoints;
-    let forest = graph::walk(*links, left);
+    let forest = graph::walk(*links, held, network::block_range(h.block_size, b));
     let still = forest.reached;
-    let parent = forest.parent;
-    let depth = forest.depth;
     let lost = weigh::lost_between(services, weights, protected, d, reached, still);
     let w = Cost {
         block: b,
@@ -152,7 +150,7 @@ fn add_section(
         cuts: lost.count as usize,
         mark: lost.mark as usize,
     };
-    put_section(buf, at, n, w, &parent, &depth);
+    put_section(buf, at, n, w, &forest.parent, &forest.depth);
     w
 }
 
@@ -188,7 +186,6 @@ fn put_sections(
     let mut b: usize = 0;
     while b < blocks {
         if network::is_candidate(&near, size, b) {
-            let left = rows::minus(held, network::block_row(size, b));
             let w = add_section(
                 buf,
                 q,
@@ -199,7 +196,7 @@ fn put_sections(
                 weights,
                 protected,
                 reached,
-                left,
+                held,
             );
             best = evidence::better(best, w);
             q += evidence::section_bytes(n);
@@ -237,13 +234,11 @@ pub fn write_evidence(s: &[u8], h: Header, p: Plan, buf: &mut [u8])
     network::link_rows(s, h, &mut links);
     network::service_link_rows(s, h, &mut services);
     let protected = network::endpoint_rows(s, h, &mut weights);
-    let forest = graph::walk(links, held);
+    let forest = graph::walk(links, held, rows::no_range());
     let reached = forest.reached;
-    let parent = forest.parent;
-    let depth = forest.depth;
     let none = [0u64; WORDS];
     let all = weigh::lost_between(&services, &weights, protected, d, reached, none);
-    put_forest(buf, HEAD_BYTES, n, &parent, &depth);
+    put_forest(buf, HEAD_BYTES, n, &forest.parent, &forest.depth);
     let at = HEAD_BYTES + n * NODE_BYTES;
     let c = put_sections(
         buf,

@@ -4,6 +4,7 @@ pub mod Pigeons
 pub mod Chains
 pub mod Forests
 pub mod Held
+pub mod Avoiding
 pub mod Levels
 pub mod Entries
 pub mod Sweeps

@@ -6,9 +6,12 @@ use Prim.Native.Nat.{ℕ, _≤_}
 use native.Mathlib.Omega.{arith}
 use native.Mathlib.Nat.{le-of-lt}
 use lib.Dec.{T, eqb, eqb→eq}
+use Rattle.rows.specs.declared.Range.{Range}
+use Rattle.rows.specs.Ranges.{avoiding}
 use Rattle.graph.specs.Sweeps.{Ready, Finds, Sweep, Swept}
 use Rattle.graph.specs.Sweeps.Sweep.{entered, kept}
 use Rattle.rows.proofs.Parts.{done, Part, Picked, Union, done-more, done-below}
+use Rattle.rows.proofs.Ranges.{without-both, both-without, without-as}
 
 -- what one kind of finders and then another find, the first below the second, is what both together find
 pub record Joined (A B C : ℕ → ℕ → Type 0) : Type 0 where
@@ -78,11 +81,18 @@ module _ {marks left new left′ : ℕ → Bool} (part : Part marks left) (picke
         rising = λ v a b c e. le-of-lt (done-below part picked a b (c .there) (e .there));
       }
 
-  pub row-joined : (u : ℕ) → Joined (Finds (eqb u) (λ _. done marks left)) (Finds (eqb u) (λ _. new)) (Finds (eqb u) (λ _. done marks left′))
-  row-joined u =
+  pub row-joined : (r : Range) (u : ℕ)
+      → Joined (Finds (eqb u) (avoiding r (λ _. done marks left))) (Finds (eqb u) (avoiding r (λ _. new))) (Finds (eqb u) (avoiding r (λ _. done marks left′)))
+  row-joined r u =
       record {
-        splits = λ v w c. ⊎-elim (λ b. inl (record { there = c .there; link = b })) (λ n. inr (record { there = c .there; link = n })) (more .splits v (c .link));
-        of-first = λ v w c. record { there = c .there; link = more .of-before v (c .link) };
-        of-second = λ v w c. record { there = c .there; link = more .of-new v (c .link) };
+        splits =
+            λ v w c.
+            let o = without-both r (done marks left′) v (c .link) in
+            ⊎-elim
+            (λ b. inl (record { there = c .there; link = both-without r (done marks left) v b (o .1) }))
+            (λ n. inr (record { there = c .there; link = both-without r new v n (o .1) }))
+            (more .splits v (o .0));
+        of-first = λ v w c. record { there = c .there; link = without-as r _ _ v (more .of-before v) (c .link) };
+        of-second = λ v w c. record { there = c .there; link = without-as r _ _ v (more .of-new v) (c .link) };
         rising = λ v a b c e. omega (arith, eqb→eq u a (c .there), eqb→eq u b (e .there));
       }

@@ -1,8 +1,8 @@
 -- The sweep of one row, word by word. Assumes nothing.
-use mathlib.Core.Bool.{Bool, true, false, _&&_, xor}
+use mathlib.Core.Bool.{xor}
 use mathlib.Core.List.{List}
 use mathlib.Core.Logic.{by-cases}
-use mathlib.Core.Path.{_≡_, refl, _∙_}
+use mathlib.Core.Path.{_≡_, sym, _∙_, subst}
 use Prim.Native.Nat.{ℕ, _+_, _*_, _/_, _%_, _≤_, _<_}
 use native.Mathlib.Omega.{arith}
 use native.Mathlib.Decide.{ℕ-discrete}
@@ -11,28 +11,17 @@ use lib.Bits.{bitAnd, bitXor}
 use lib.Dec.{T, eqb, eqb-refl, eqb→eq}
 use lib.ListN.{length, getD, set, length-set}
 use Rattle.rows.specs.Rows.{marked, rowWords, inWord}
+use Rattle.rows.specs.declared.Range.{Range}
+use Rattle.rows.specs.Ranges.{without, avoiding, LeftOut}
 use Rattle.graph.specs.Sweeps.{Locations, Ready, Entered, Finds, Sweep, Swept}
 use Rattle.graph.specs.Sweeps.Sweep.{entered, kept}
-use Rattle.lists.proofs.Tests.{T?}
-use Rattle.rows.proofs.Digits.{digit-and, digit-xor}
+use Rattle.lists.proofs.Tests.{T?, is-true, is-false, xor-false}
+use Rattle.rows.proofs.Digits.{digit-xor}
 use Rattle.rows.proofs.InWords.{both-words, common-words, none-in-zero}
 use Rattle.rows.proofs.Parts.{done, done-none, done-marks, marks-done}
-use Rattle.rows.proofs.Marks.{mark-is, mark-here, mark-other, word-marked, marked-word, fromWord, from-first, from-past, from-part, row-picked}
+use Rattle.rows.proofs.Marks.{mark-is, word-is, mark-here, mark-other, word-marked, marked-word, fromWord, from-first, from-past, from-part, row-picked}
+use Rattle.rows.proofs.Ranges.{without-both, without-as}
 use Rattle.graph.proofs.Sweeps.{sweep-fresh, swept-none, swept-then, swept-as, row-joined}
-
--- what two tests have in common, taken from the second
-xor-both : (a b : Bool) → T a → T b → xor b (a && b) ≡ false
-unfolding xor
-xor-both true true s t = refl
-xor-both true false s t = absurd t
-xor-both false b s t = absurd s
-
-xor-not-both : (a b : Bool) → (T a → T b → ⊥) → xor b (a && b) ≡ b
-unfolding xor
-xor-not-both true true f = absurd (f tt tt)
-xor-not-both true false f = refl
-xor-not-both false true f = refl
-xor-not-both false false f = refl
 
 module _ (row fresh : List ℕ) (i : ℕ) where
   -- what word i of the row and the fresh slots have in common
@@ -50,107 +39,112 @@ module _ (row fresh : List ℕ) (i : ℕ) where
   marked-common v s t =
       both-words (getD row i 0) (getD fresh i 0) (i * 64) v s (marked-word fresh i v (word-marked row i v s .0) t)
 
-  -- the entries that are made are of locations
-  pub common-locations : Locations (marked fresh) → Locations (inWord common (i * 64))
-  common-locations l = record { within = λ v t. l .within v (common-marked v t .2) }
+  -- what of it is outside a range
+  module _ (r : Range) {new : ℕ} (left : LeftOut r common (i * 64) new) where
+    new-marked : (v : ℕ) → T (inWord new (i * 64) v) → (v / 64 ≡ i) × T (marked fresh v) × T (without r (inWord (getD row i 0) (i * 64)) v)
+    new-marked v t =
+        let o = subst T (left .marks v) t in
+        let s = common-marked v (without-both r (inWord common (i * 64)) v o .0) in
+        (s .0, s .2, without-as r _ _ v (λ m. common-words (getD row i 0) (getD fresh i 0) (i * 64) v m .0) o)
 
-  module _ (u d : ℕ) (parent depth : List ℕ) (ready : Ready fresh parent depth) where
-    -- nothing in common: the word is passed over
-    pub word-passed : common ≡ 0 → Swept (eqb u) (λ _. inWord (getD row i 0) (i * 64)) d fresh parent depth fresh parent depth
-    word-passed z =
-        record { ready = ready; slot = λ v. kept (λ t w c. none-in-zero common (i * 64) z v (marked-common v (c .link) t)) }
+    marked-new : (v : ℕ) → T (without r (inWord (getD row i 0) (i * 64)) v) → T (marked fresh v) → T (inWord new (i * 64) v)
+    marked-new v s t = subst T (sym (left .marks v)) (without-as r _ _ v (λ m. marked-common v m t) s)
 
-    -- what is in common is entered, and is fresh no more
-    module _ (low : i < length fresh) (parent′ depth′ : List ℕ) (e : Entered (inWord common (i * 64)) u d parent depth parent′ depth′) where
-      abbrev fresh′ : List ℕ
-      fresh′ = set fresh i (bitXor (getD fresh i 0) common)
+    -- the entries that are made are of locations
+    pub new-locations : Locations (marked fresh) → Locations (inWord new (i * 64))
+    new-locations l = record { within = λ v t. l .within v (new-marked v t .1) }
 
-      -- the fresh slots lose what the row marks
-      cleared : (v : ℕ) → v / 64 ≡ i → marked fresh′ v ≡ xor (marked fresh v) (marked row v && marked fresh v)
-      cleared v q =
-          mark-here fresh i (bitXor (getD fresh i 0) common) low v q ∙ digit-xor (getD fresh i 0) common (v % 64)
-          ∙ rw (digit-and (getD row i 0) (getD fresh i 0) (v % 64), ← mark-is fresh i v q, ← mark-is row i v q)
+    module _ (u d : ℕ) (parent depth : List ℕ) (ready : Ready fresh parent depth) where
+      -- there is nothing: the word is passed over
+      pub word-passed : new ≡ 0 → Swept (eqb u) (avoiding r (λ _. inWord (getD row i 0) (i * 64))) d fresh parent depth fresh parent depth
+      word-passed z = record { ready = ready; slot = λ v. kept (λ t w c. none-in-zero new (i * 64) z v (marked-new v (c .link) t)) }
 
-      Slot : ℕ → Type 0
-      Slot v = Sweep (Finds (eqb u) (λ _. inWord (getD row i 0) (i * 64)) v) d (marked fresh v) (getD parent v 0) (getD depth v 0) (marked fresh′ v) (getD parent′ v 0) (getD depth′ v 0)
+      -- it is entered, and is fresh no more
+      module _ (low : i < length fresh) (parent′ depth′ : List ℕ) (e : Entered (inWord new (i * 64)) u d parent depth parent′ depth′) where
+        abbrev fresh′ : List ℕ
+        fresh′ = set fresh i (bitXor (getD fresh i 0) new)
 
-      new-slot : (v : ℕ) → T (inWord common (i * 64) v) → Slot v
-      unfolding Slot
-      new-slot v t =
-          let s = common-marked v t in
-          rw (cleared v (s .0), xor-both (marked row v) (marked fresh v) (s .1) (s .2), e .new-parent v t, e .new-depth v t)
-          (entered (s .2)
-          (record {
-            found = record { there = eqb-refl u; link = common-words (getD row i 0) (getD fresh i 0) (i * 64) v t .0 };
-            lowest = λ w c. le-of-eq (eqb→eq u w (c .there));
-          }))
+        cleared : (v : ℕ) → v / 64 ≡ i → marked fresh′ v ≡ xor (marked fresh v) (inWord new (i * 64) v)
+        cleared v q =
+            mark-here fresh i (bitXor (getD fresh i 0) new) low v q ∙ digit-xor (getD fresh i 0) new (v % 64)
+            ∙ rw (← mark-is fresh i v q, ← word-is new i v q)
 
-      same : (v : ℕ) → ¬ T (inWord common (i * 64) v) → marked fresh′ v ≡ marked fresh v
-      same v n =
-          by-cases
-          (ℕ-discrete (v / 64) i)
-          (λ q. cleared v q ∙ xor-not-both (marked row v) (marked fresh v) (λ r f. n (marked-common v (marked-word row i v q r) f)))
-          (mark-other fresh i (bitXor (getD fresh i 0) common) v)
+        Slot : ℕ → Type 0
+        Slot v =
+            Sweep (Finds (eqb u) (avoiding r (λ _. inWord (getD row i 0) (i * 64))) v) d (marked fresh v) (getD parent v 0) (getD depth v 0) (marked fresh′ v) (getD parent′ v 0) (getD depth′ v 0)
 
-      old-slot : (v : ℕ) → ¬ T (inWord common (i * 64) v) → Slot v
-      unfolding Slot
-      old-slot v n = rw (same v n, e .old-parent v n, e .old-depth v n) (kept (λ t w c. n (marked-common v (c .link) t)))
+        new-slot : (v : ℕ) → T (inWord new (i * 64) v) → Slot v
+        unfolding Slot xor
+        new-slot v t =
+            let s = new-marked v t in
+            rw (cleared v (s .0), is-true (marked fresh v) (s .1), is-true (inWord new (i * 64) v) t, e .new-parent v t, e .new-depth v t)
+            (entered tt (record { found = record { there = eqb-refl u; link = s .2 }; lowest = λ w c. le-of-eq (eqb→eq u w (c .there)) }))
 
-      slots : (v : ℕ) → Slot v
-      slots v = by-cases (T? (inWord common (i * 64) v)) (new-slot v) (old-slot v)
+        same : (v : ℕ) → ¬ T (inWord new (i * 64) v) → marked fresh′ v ≡ marked fresh v
+        same v n =
+            by-cases
+            (ℕ-discrete (v / 64) i)
+            (λ q. cleared v q ∙ rw (is-false (inWord new (i * 64) v) n, xor-false))
+            (mark-other fresh i (bitXor (getD fresh i 0) new) v)
 
-      pub word-swept : Swept (eqb u) (λ _. inWord (getD row i 0) (i * 64)) d fresh parent depth fresh′ parent′ depth′
-      unfolding Slot
-      word-swept =
-          record {
-            ready =
-                record {
-                  words = simp length-set (ready .words);
-                  locations = record { within = λ v t. ready .locations .within v (sweep-fresh (slots v) t) };
-                  whole = e .whole;
-                };
-            slot = slots;
-          }
+        old-slot : (v : ℕ) → ¬ T (inWord new (i * 64) v) → Slot v
+        unfolding Slot
+        old-slot v n = rw (same v n, e .old-parent v n, e .old-depth v n) (kept (λ t w c. n (marked-new v (c .link) t)))
+
+        slots : (v : ℕ) → Slot v
+        slots v = by-cases (T? (inWord new (i * 64) v)) (new-slot v) (old-slot v)
+
+        pub word-swept : Swept (eqb u) (avoiding r (λ _. inWord (getD row i 0) (i * 64))) d fresh parent depth fresh′ parent′ depth′
+        unfolding Slot
+        word-swept =
+            record {
+              ready =
+                  record {
+                    words = simp length-set (ready .words);
+                    locations = record { within = λ v t. ready .locations .within v (sweep-fresh (slots v) t) };
+                    whole = e .whole;
+                  };
+              slot = slots;
+            }
 
 -- ---- the loop over the words
 
 -- the marks of the words below i are swept
-pub record Sweeping (row : List ℕ) (u d i : ℕ) (fresh₀ parent₀ depth₀ fresh parent depth : List ℕ) : Type 0 where
+pub record Sweeping (r : Range) (row : List ℕ) (u d i : ℕ) (fresh₀ parent₀ depth₀ fresh parent depth : List ℕ) : Type 0 where
   pub low : i ≤ rowWords
   pub words : length row ≡ rowWords
-  pub swept : Swept (eqb u) (λ _. done (marked row) (fromWord i (marked row))) d fresh₀ parent₀ depth₀ fresh parent depth
+  pub swept : Swept (eqb u) (avoiding r (λ _. done (marked row) (fromWord i (marked row)))) d fresh₀ parent₀ depth₀ fresh parent depth
 
-module _ {row : List ℕ} {u d : ℕ} {fresh₀ parent₀ depth₀ : List ℕ} where
-  pub begun : length row ≡ rowWords → Ready fresh₀ parent₀ depth₀ → Sweeping row u d 0 fresh₀ parent₀ depth₀ fresh₀ parent₀ depth₀
+module _ {r : Range} {row : List ℕ} {u d : ℕ} {fresh₀ parent₀ depth₀ : List ℕ} where
+  pub begun : length row ≡ rowWords → Ready fresh₀ parent₀ depth₀ → Sweeping r row u d 0 fresh₀ parent₀ depth₀ fresh₀ parent₀ depth₀
   begun l ready =
       record {
         low = omega arith;
         words = l;
-        swept = swept-none _ _ ready (λ v w f. done-none _ _ (from-first (marked row)) v (f .link));
+        swept = swept-none _ _ ready (λ v w f. done-none _ _ (from-first (marked row)) v (without-both r _ v (f .link) .0));
       }
 
-  module _ {i : ℕ} {fresh parent depth : List ℕ} (s : Sweeping row u d i fresh₀ parent₀ depth₀ fresh parent depth) where
-    next : {fresh′ parent′ depth′ : List ℕ} → i < rowWords → Swept (eqb u) (λ _. inWord (getD row i 0) (i * 64)) d fresh parent depth fresh′ parent′ depth′
-        → Sweeping row u d (i + 1) fresh₀ parent₀ depth₀ fresh′ parent′ depth′
+  module _ {i : ℕ} {fresh parent depth : List ℕ} (s : Sweeping r row u d i fresh₀ parent₀ depth₀ fresh parent depth) where
+    next : {fresh′ parent′ depth′ : List ℕ} → i < rowWords → Swept (eqb u) (avoiding r (λ _. inWord (getD row i 0) (i * 64))) d fresh parent depth fresh′ parent′ depth′
+        → Sweeping r row u d (i + 1) fresh₀ parent₀ depth₀ fresh′ parent′ depth′
     next l w =
         record {
           low = omega arith;
           words = s .words;
-          swept = swept-then (row-joined (from-part i (marked row)) (row-picked row i) u) (s .swept) w;
+          swept = swept-then (row-joined (from-part i (marked row)) (row-picked row i) r u) (s .swept) w;
         }
 
-    pub miss : i < rowWords → common row fresh i ≡ 0 → Sweeping row u d (i + 1) fresh₀ parent₀ depth₀ fresh parent depth
-    miss l z = next l (word-passed row fresh i u d parent depth (s .swept .ready) z)
+    pub miss : {new : ℕ} → i < rowWords → LeftOut r (common row fresh i) (i * 64) new → new ≡ 0 → Sweeping r row u d (i + 1) fresh₀ parent₀ depth₀ fresh parent depth
+    miss l o z = next l (word-passed row fresh i r o u d parent depth (s .swept .ready) z)
 
-    pub hit : {parent′ depth′ : List ℕ} → i < rowWords → Entered (inWord (common row fresh i) (i * 64)) u d parent depth parent′ depth′
-        → Sweeping row u d (i + 1) fresh₀ parent₀ depth₀ (set fresh i (bitXor (getD fresh i 0) (common row fresh i))) parent′ depth′
-    hit l e =
-        next l (word-swept row fresh i u d parent depth (s .swept .ready) (omega (arith, s .swept .ready .words)) _ _ e)
+    pub hit : {new : ℕ} {parent′ depth′ : List ℕ} → i < rowWords → LeftOut r (common row fresh i) (i * 64) new → Entered (inWord new (i * 64)) u d parent depth parent′ depth′
+        → Sweeping r row u d (i + 1) fresh₀ parent₀ depth₀ (set fresh i (bitXor (getD fresh i 0) new)) parent′ depth′
+    hit l o e = next l (word-swept row fresh i r o u d parent depth (s .swept .ready) (omega (arith, s .swept .ready .words)) _ _ e)
 
-    pub ended : rowWords ≤ i → Swept (eqb u) (λ _. marked row) d fresh₀ parent₀ depth₀ fresh parent depth
+    pub ended : rowWords ≤ i → Swept (eqb u) (avoiding r (λ _. marked row)) d fresh₀ parent₀ depth₀ fresh parent depth
     ended l =
         let none = from-past row i (omega (arith, s .words)) in
         swept-as
-        (λ v w f. record { there = f .there; link = done-marks _ _ none v (f .link) })
-        (λ v w f. record { there = f .there; link = marks-done _ _ none v (f .link) })
+        (λ v w f. record { there = f .there; link = without-as r _ _ v (done-marks _ _ none v) (f .link) })
+        (λ v w f. record { there = f .there; link = without-as r _ _ v (marks-done _ _ none v) (f .link) })
         (s .swept)

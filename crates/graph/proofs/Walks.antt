@@ -11,6 +11,8 @@ use lib.Bits.{bitOr}
 use lib.Dec.{T, eqb, eqb→eq}
 use lib.ListN.{length, getD, set, replicate, length-replicate}
 use Rattle.rows.specs.Rows.{marked, linkedIn, locationsMax, slotsMax, rowWords, Differ}
+use Rattle.rows.specs.declared.Range.{Range}
+use Rattle.rows.specs.Ranges.{without, avoiding}
 use Rattle.graph.specs.Held.{heldIn, SlotsOnly}
 use Rattle.graph.specs.Steps.{Walked}
 use Rattle.graph.specs.Sweeps.{Locations, Ready, Swept}
@@ -21,16 +23,17 @@ use Rattle.graph.proofs.Forests.{fewest-reached}
 use Rattle.graph.proofs.Levels.{Levels, levels-begun, levels-next, levels-entry, levels-origin, taken-reached, reached-taken}
 use Rattle.rows.proofs.Marks.{with-origin, clear-row}
 use Rattle.graph.proofs.Held.{slot-held, held-within}
+use Rattle.graph.proofs.Avoiding.{walked-without}
 
 -- d levels are walked
-pub record Walking (links : List (List ℕ)) (held : List ℕ) (d : ℕ) (frontier fresh parent depth : List ℕ) : Type 0 where
+pub record Walking (r : Range) (links : List (List ℕ)) (held : List ℕ) (d : ℕ) (frontier fresh parent depth : List ℕ) : Type 0 where
   pub low : d ≤ slotsMax
   pub ready : Ready fresh parent depth
-  pub levels : Levels (linkedIn links) (heldIn held) d (marked frontier) (marked fresh) (λ v. getD parent v 0) (λ v. getD depth v 0)
+  pub levels : Levels (avoiding r (linkedIn links)) (heldIn held) d (marked frontier) (marked fresh) (λ v. getD parent v 0) (λ v. getD depth v 0)
 
-module _ {links : List (List ℕ)} {held : List ℕ} (only : SlotsOnly held) where
+module _ {r : Range} {links : List (List ℕ)} {held : List ℕ} (only : SlotsOnly held) where
   -- the frontier is the origin
-  pub begun : length held ≡ rowWords → Walking links held 0 (set (replicate rowWords 0) 0 1) held (replicate locationsMax 0) (replicate locationsMax 0)
+  pub begun : length held ≡ rowWords → Walking r links held 0 (set (replicate rowWords 0) 0 1) held (replicate locationsMax 0) (replicate locationsMax 0)
   begun l =
       record {
         low = zero-le;
@@ -55,15 +58,15 @@ module _ {links : List (List ℕ)} {held : List ℕ} (only : SlotsOnly held) whe
           with-origin (replicate rowWords 0) (omega arith) v
           ∙ ap (λ b. b || eqb v 0) (clear-row rowWords v)
 
-  module _ {d : ℕ} {frontier fresh parent depth : List ℕ} (w : Walking links held d frontier fresh parent depth) where
+  module _ {d : ℕ} {frontier fresh parent depth : List ℕ} (w : Walking r links held d frontier fresh parent depth) where
     -- what the frontier marks ends a chain, so it is a location
     pub frontier-locations : Locations (marked frontier)
     frontier-locations =
         record { within = λ v t. chain-within slotsMax (held-within only) (w .levels .edge .deep v t .chain) }
 
     -- one more level is swept
-    pub next : {frontier′ fresh′ parent′ depth′ : List ℕ} → d < slotsMax → Swept (marked frontier) (linkedIn links) (d + 1) fresh parent depth fresh′ parent′ depth′
-        → Differ fresh fresh′ frontier′ → Walking links held (d + 1) frontier′ fresh′ parent′ depth′
+    pub next : {frontier′ fresh′ parent′ depth′ : List ℕ} → d < slotsMax → Swept (marked frontier) (avoiding r (linkedIn links)) (d + 1) fresh parent depth fresh′ parent′ depth′
+        → Differ fresh fresh′ frontier′ → Walking r links held (d + 1) frontier′ fresh′ parent′ depth′
     next l s t =
         record {
           low = omega arith;
@@ -73,9 +76,10 @@ module _ {links : List (List ℕ)} {held : List ℕ} (only : SlotsOnly held) whe
 
     -- the frontier is empty or the levels are as many as the slots: what is taken from the held slots is reached, with the origin
     pub ended : {row : List ℕ} → 0 < length row → Differ held fresh row → ((v : ℕ) → ¬ T (marked frontier v)) ⊎ (slotsMax ≤ d)
-        → Walked (linkedIn links) (heldIn held) (marked (set row 0 (bitOr (getD row 0 0) 1))) parent depth
+        → Walked (linkedIn links) (without r (heldIn held)) (marked (set row 0 (bitOr (getD row 0 0) 1))) parent depth
     ended {row} l t over =
-        record {
+        walked-without r
+        (record {
           entry = levels-entry (w .levels) slotsMax (held-within only) over;
           parent-origin = levels-origin (w .levels) .0;
           depth-origin = levels-origin (w .levels) .1;
@@ -90,13 +94,13 @@ module _ {links : List (List ℕ)} {held : List ℕ} (only : SlotsOnly held) whe
               (λ z. absurd (ne (eqb→eq v 0 z)))
               (or-T (marked row v) (eqb v 0) (rw (with-origin row l v) at m)));
           reached-marks =
-              λ v r.
+              λ v x.
               rw (with-origin row l v)
               (by-cases
               (ℕ-discrete v 0)
               (λ e. T-or-r (marked row v) (eqb v 0) (eq-T v 0 e))
-              (λ ne. T-or-l (marked row v) (eqb v 0) (rw (row-is v (omega arith)) (reached-taken (w .levels) slotsMax (held-within only) over (omega arith) r))));
-        }
+              (λ ne. T-or-l (marked row v) (eqb v 0) (rw (row-is v (omega arith)) (reached-taken (w .levels) slotsMax (held-within only) over (omega arith) x))));
+        })
       where
         row-is : (v : ℕ) → 0 < v → marked row v ≡ xor (heldIn held v) (marked fresh v)
         row-is v p = t .marks v ∙ ap (λ b. xor b (marked fresh v)) (slot-held held v p)

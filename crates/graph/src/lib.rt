@@ -1,10 +1,12 @@
 // A walk over links between locations by levels: the parent and the depth of every slot that chains from the origin reach.
 ghost use lib.Dec.{eqb};
 ghost use Rattle.rows.specs.Rows.{marked, linkedIn, inWord};
+ghost use Rattle.rows.specs.Ranges.{without, avoiding};
 ghost use Rattle.graph.specs.Held.{heldIn, SlotsOnly};
 ghost use Rattle.graph.specs.Steps.{Walked};
 ghost use Rattle.graph.specs.Sweeps.{Locations, Whole, Ready, Entered, Swept};
 use rows::LOCATIONS;
+use rows::Range;
 use rows::SLOTS;
 use rows::WORDS;
 
@@ -48,9 +50,10 @@ fn enter(
     }
 }
 
-// One row: the fresh slots that are marked in it get the parent u and the depth d, and are fresh no more.
+// One row: the fresh slots that are marked in it get the parent u and the depth d, and are fresh no more. Those of the range stay as they are.
 fn sweep(
     row: [u64; WORDS],
+    block: Range,
     fresh: &mut [u64; WORDS],
     parent: &mut [u8; LOCATIONS],
     depth: &mut [u8; LOCATIONS],
@@ -59,14 +62,14 @@ fn sweep(
 )
     requires { ⌜ Ready (now fresh) (now parent) (now depth) ⌝ }
     ensures { λ _.
-        ⌜ Swept (eqb u) (λ _. marked row) d
+        ⌜ Swept (eqb u) (avoiding block (λ _. marked row)) d
         (now (fresh .entry)) (now (parent .entry)) (now (depth .entry))
         (now (fresh .exit)) (now (parent .exit)) (now (depth .exit)) ⌝ }
 {
     let mut k: usize = 0;
     while k < WORDS {
         let old = fresh[k];
-        let found = row[k] & old;
+        let found = rows::leave_out(row[k] & old, k * 64, block);
         if found != 0 {
             fresh[k] = old ^ found;
             enter(parent, depth, found, k * 64, u, d);
@@ -80,6 +83,7 @@ fn sweep_word(
     links: &[[u64; WORDS]; LOCATIONS],
     word: u64,
     base: usize,
+    block: Range,
     fresh: &mut [u64; WORDS],
     parent: &mut [u8; LOCATIONS],
     depth: &mut [u8; LOCATIONS],
@@ -88,7 +92,7 @@ fn sweep_word(
     requires { ⌜ Locations (inWord word base) ⌝ }
     requires { ⌜ Ready (now fresh) (now parent) (now depth) ⌝ }
     ensures { λ _.
-        ⌜ Swept (inWord word base) (linkedIn (now (links .entry))) d
+        ⌜ Swept (inWord word base) (avoiding block (linkedIn (now (links .entry)))) d
         (now (fresh .entry)) (now (parent .entry)) (now (depth .entry))
         (now (fresh .exit)) (now (parent .exit)) (now (depth .exit)) ⌝ }
 {
@@ -96,7 +100,7 @@ fn sweep_word(
     while w != 0 {
         let u = base + (u64::trailing_zeros(w) as usize);
         let row = links[u];
-        sweep(row, fresh, parent, depth, u as u8, d);
+        sweep(row, block, fresh, parent, depth, u as u8, d);
         w = w & (w - 1);
     }
 }
@@ -105,6 +109,7 @@ fn sweep_word(
 fn level(
     links: &[[u64; WORDS]; LOCATIONS],
     frontier: [u64; WORDS],
+    block: Range,
     fresh: &mut [u64; WORDS],
     parent: &mut [u8; LOCATIONS],
     depth: &mut [u8; LOCATIONS],
@@ -113,22 +118,23 @@ fn level(
     requires { ⌜ Locations (marked frontier) ⌝ }
     requires { ⌜ Ready (now fresh) (now parent) (now depth) ⌝ }
     ensures { λ _.
-        ⌜ Swept (marked frontier) (linkedIn (now (links .entry))) d
+        ⌜ Swept (marked frontier) (avoiding block (linkedIn (now (links .entry)))) d
         (now (fresh .entry)) (now (parent .entry)) (now (depth .entry))
         (now (fresh .exit)) (now (parent .exit)) (now (depth .exit)) ⌝ }
 {
     let mut i: usize = 0;
     while i < WORDS {
         let word = frontier[i];
-        sweep_word(links, word, i * 64, fresh, parent, depth, d);
+        sweep_word(links, word, i * 64, block, fresh, parent, depth, d);
         i += 1;
     }
 }
 
-// The forest of the chains over the links through the held slots.
-pub fn walk(links: [[u64; WORDS]; LOCATIONS], held: [u64; WORDS]) -> Forest
+// The forest of the chains over the links through the held slots, but for those of a range. These are told by their numbers where they would
+// be entered, so `fresh` keeps their marks to the end.
+pub fn walk(links: [[u64; WORDS]; LOCATIONS], held: [u64; WORDS], block: Range) -> Forest
     requires { ⌜ SlotsOnly held ⌝ }
-    ensures { λ r. ⌜ Walked (linkedIn links) (heldIn held) (marked (r .reached)) (r .parent) (r .depth) ⌝ }
+    ensures { λ r. ⌜ Walked (linkedIn links) (without block (heldIn held)) (marked (r .reached)) (r .parent) (r .depth) ⌝ }
 {
     let mut parent = [0u8; LOCATIONS];
     let mut depth = [0u8; LOCATIONS];
@@ -142,7 +148,15 @@ pub fn walk(links: [[u64; WORDS]; LOCATIONS], held: [u64; WORDS]) -> Forest
         }
         let before = fresh;
         d += 1;
-        level(&links, frontier, &mut fresh, &mut parent, &mut depth, d);
+        level(
+            &links,
+            frontier,
+            block,
+            &mut fresh,
+            &mut parent,
+            &mut depth,
+            d,
+        );
         frontier = rows::differ(before, fresh);
     }
     let mut reached = rows::differ(held, fresh);

@@ -10,7 +10,6 @@ pub mod Rules
 pub mod Sums
 pub mod Prefixes
 pub mod Picks
-pub mod Ends
 pub mod Every
 pub mod Growing
 pub mod Scans

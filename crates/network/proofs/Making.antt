@@ -3,7 +3,7 @@ use mathlib.Core.Path.{_≡_, refl, sym, ap, ap₂, _∙_}
 use mathlib.Core.Bool.{Bool, true, false, _&&_, _||_, and-true, and-false, or-false}
 use mathlib.Core.Logic.{by-cases}
 use mathlib.Core.List.{List, []}
-use Prim.Native.Nat.{ℕ, _+_, _*_, _≤_, _<_}
+use Prim.Native.Nat.{ℕ, _+_, _≤_, _<_}
 use native.Mathlib.Omega.{arith}
 use native.Mathlib.Decide.{decLe, decLt, ℕ-discrete}
 use borrow.Author.Tests.{le-leb, lt-leb, lt-ltb, le-ltb, eq-eqb, ne-eqb}
@@ -93,32 +93,3 @@ module _ (f : ℕ → Bool) where
 
   pub scanned-miss : (row : List ℕ) (v : ℕ) → 1 ≤ v → Scanned f row v → f v ≡ false → Scanned f row (v + 1)
   scanned-miss row v h s e = next-same row row v false h s e (λ u. sym (ap (λ (x : Bool). marked row u || x) (and-false (eqb u v)) ∙ or-false (marked row u)))
-
--- ---- the row of a block
-
--- k slots of the block are marked
-pub record Marking (size b : ℕ) (row : List ℕ) (k : ℕ) : Type 0 where
-  pub within : k ≤ size
-  pub same : (u : ℕ) → marked row u ≡ (leb (b * size + 1) u && leb u (b * size + k))
-
-module _ (size b : ℕ) where
-  pub marking-begun : (n : ℕ) → Marking size b (replicate n 0) 0
-  marking-begun n = record { within = omega arith; same = λ u. clear-row n u ∙ sym (none u) }
-    where
-      none : (u : ℕ) → (leb (b * size + 1) u && leb u (b * size + 0)) ≡ false
-      none u = by-cases (decLe (b * size + 1) u) (λ l. rw (le-leb (b * size + 1) u l, lt-leb u (b * size + 0) (omega arith))) (λ g. rw (lt-leb (b * size + 1) u (omega arith)))
-
-  pub marking-next : (row row′ : List ℕ) (k : ℕ) → k < size → Marking size b row k → With row (b * size + (k + 1)) row′ → Marking size b row′ (k + 1)
-  marking-next row row′ k h m w = record { within = omega arith; same = λ u. w .marks u ∙ ap (λ (x : Bool). x || eqb u (b * size + (k + 1))) (m .same u) ∙ go u }
-    where
-      go : (u : ℕ) → ((leb (b * size + 1) u && leb u (b * size + k)) || eqb u (b * size + (k + 1))) ≡ (leb (b * size + 1) u && leb u (b * size + (k + 1)))
-      go u =
-          by-cases
-          (ℕ-discrete u (b * size + (k + 1)))
-          (λ q.
-          rw (eq-eqb u (b * size + (k + 1)) q, le-leb (b * size + 1) u (omega arith), le-leb u (b * size + (k + 1)) (omega arith), lt-leb u (b * size + k) (omega arith)))
-          (λ n.
-          by-cases
-          (decLe u (b * size + k))
-          (λ l. rw (ne-eqb u (b * size + (k + 1)) n, le-leb u (b * size + k) l, le-leb u (b * size + (k + 1)) (omega arith)) (or-false (leb (b * size + 1) u && true)))
-          (λ g. rw (ne-eqb u (b * size + (k + 1)) n, lt-leb u (b * size + k) (omega arith), lt-leb u (b * size + (k + 1)) (omega arith)) (or-false (leb (b * size + 1) u && false))))

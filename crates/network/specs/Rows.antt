@@ -1,11 +1,11 @@
 -- A picture's network as rows of marks: what the functions that make them give. Inner: nothing here is promised. Assumes nothing.
-use mathlib.Core.Bool.{Bool, true, false, _&&_}
+use mathlib.Core.Bool.{Bool, true, false}
 use mathlib.Core.List.{List}
 use mathlib.Core.Path.{_≡_}
 use Prim.Native.Nat.{ℕ, suc, _+_, _*_}
-use lib.Dec.{leb}
 use lib.ListN.{length, getD}
 use Rattle.lists.specs.Lists.{range, any, filter}
+use Rattle.rows.specs.declared.Range.{Range}
 use Rattle.rows.specs.Rows.{marked, linkedIn, locationsMax}
 use Rattle.graph.specs.Held.{heldIn, SlotsOnly}
 use Rattle.picture.specs.declared.Header.{Header}
@@ -51,9 +51,9 @@ pub record EndpointsOf (p : Picture) (weights guarded : List ℕ) : Type 0 where
   pub weight : (c : ℕ) → getD weights c 0 ≡ weightOf p c
   pub protected : (c : ℕ) → marked guarded c ≡ endpointOf p c .protected
 
--- a row that marks the locations of a block: b times the block size plus 1 to b times the block size plus the block size
-pub record BlockRow (size b : ℕ) (row : List ℕ) : Type 0 where
-  pub marks : (v : ℕ) → marked row v ≡ (leb (b * size + 1) v && leb v (b * size + size))
+-- the slots of a block by their numbers: b times the block size plus 1 to b times the block size plus the block size
+abbrev pub blockRange : ℕ → ℕ → Range
+blockRange size b = record { after = b * size; last = b * size + size }
 
 -- a slot of block b is marked
 unfoldable pub blockMarked : List ℕ → ℕ → ℕ → Bool

@@ -1,4 +1,4 @@
-// A picture's network as rows of marks: links, service links, held and near slots, blocks, and the endpoints' weights.
+// A picture's network as rows of marks: links, service links, held and near slots; a block's numbers, and the endpoints' weights.
 ghost use mathlib.Core.Path.{_≡_};
 ghost use Prim.Native.Nat.{suc, _+_, _*_, _≤_};
 ghost use lib.ListN.{replicate};
@@ -7,12 +7,12 @@ ghost use Rattle.picture.specs.Layout.{endpointsMax};
 ghost use Rattle.picture.specs.Picture.{pictureOf};
 ghost use Rattle.picture.specs.Inner.{Read};
 ghost use Rattle.network.specs.Words.{joins, isHeld};
-ghost use Rattle.network.specs.Tests.{isNearHeld};
-ghost use Rattle.network.specs.Rows.{Clear, RowsOf, countOf, rowsFor, tableOf, SlotRowsOf, BlockRow, blockMarked, EndpointsOf};
+ghost use Rattle.network.specs.Rows.{Clear, RowsOf, countOf, rowsFor, tableOf, SlotRowsOf, blockRange, blockMarked, EndpointsOf};
 use picture::ENDPOINTS_MAX;
 use picture::HELD;
 use picture::Header;
 use rows::LOCATIONS;
+use rows::Range;
 use rows::WORDS;
 
 // A place for each endpoint by its number, and for 0.
@@ -74,17 +74,6 @@ fn is_held(s: &[u8], h: Header, v: usize) -> bool
     picture::slot_state(s, h, v) == HELD
 }
 
-// Whether slot v is held and near.
-fn is_near_held(s: &[u8], h: Header, v: usize) -> bool
-    requires { ⌜ Read (now s) h × (1 ≤ v) × (v ≤ h .slots) ⌝ }
-    ensures { λ r. ⌜ r ≡ isNearHeld (pictureOf (now (s .entry))) v ⌝ }
-{
-    if is_held(s, h, v) {
-        return picture::slot_near(s, h, v);
-    }
-    false
-}
-
 // The held slots and the held near slots.
 pub fn slot_rows(s: &[u8], h: Header) -> SlotRows
     requires { ⌜ Read (now s) h ⌝ }
@@ -97,9 +86,9 @@ pub fn slot_rows(s: &[u8], h: Header) -> SlotRows
     while v <= n {
         if is_held(s, h, v) {
             rows::add(&mut held, v);
-        }
-        if is_near_held(s, h, v) {
-            rows::add(&mut near, v);
+            if picture::slot_near(s, h, v) {
+                rows::add(&mut near, v);
+            }
         }
         v += 1;
     }
@@ -107,18 +96,15 @@ pub fn slot_rows(s: &[u8], h: Header) -> SlotRows
 }
 
 // The slots of block b.
-pub fn block_row(size: usize, b: usize) -> [u64; WORDS]
+pub fn block_range(size: usize, b: usize) -> Range
     requires { ⌜ b * size + size ≤ slotsMax ⌝ }
-    ensures { λ r. ⌜ BlockRow size b r ⌝ }
+    ensures { λ r. ⌜ r ≡ blockRange size b ⌝ }
 {
     let start = b * size;
-    let mut row = [0u64; WORDS];
-    let mut k: usize = 0;
-    while k < size {
-        k += 1;
-        rows::add(&mut row, start + k);
+    Range {
+        after: start,
+        last: start + size,
     }
-    row
 }
 
 // Whether block b has a held near slot, by the row of these.
@@ -126,15 +112,7 @@ pub fn is_candidate(near: &[u64; WORDS], size: usize, b: usize) -> bool
     requires { ⌜ b * size + size ≤ slotsMax ⌝ }
     ensures { λ r. ⌜ r ≡ blockMarked (now (near .entry)) size b ⌝ }
 {
-    let first = b * size + 1;
-    let mut k: usize = 0;
-    while k < size {
-        if rows::has(near, first + k) {
-            return true;
-        }
-        k += 1;
-    }
-    false
+    rows::marks_any(near, block_range(size, b))
 }
 
 // Writes the endpoints' weights into an array of zeros, and gives the row of the protected ones.

@@ -4,3 +4,4 @@ pub mod Lowest
 pub mod Parts
 pub mod InWords
 pub mod Marks
+pub mod Ranges

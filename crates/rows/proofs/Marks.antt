@@ -10,7 +10,7 @@ use native.Mathlib.Nat.{lt-of-le-of-lt}
 use lib.Bits.{bitAnd, bitOr, bitXor, or-add-and, and-le-l, and-le-r}
 use borrow.Author.Count.{below-more}
 use lib.Count.{trailingZeros}
-use borrow.Author.Tests.{eq-eqb, ne-eqb}
+use borrow.Author.Tests.{eq-eqb, ne-eqb, le-leb, lt-ltb}
 use lib.Dec.{T, T-not, leb, eqb, leb→le, le→leb, eqb→eq}
 use lib.ListN.{length, getD, set, replicate, length-set, length-replicate, List·getD-eq-default}
 use lib.Seq.{getD-set-same, getD-set-other}
@@ -34,6 +34,13 @@ digit-mark row v e = eq-T (bit (getD row (v / 64) 0) (v % 64)) 1 e
 pub mark-is : (row : List ℕ) (i v : ℕ) → v / 64 ≡ i → marked row v ≡ eqb (bit (getD row i 0) (v % 64)) 1
 unfolding marked
 mark-is row i v e = rw e
+
+-- the same of a word alone
+pub word-is : (word i v : ℕ) → v / 64 ≡ i → inWord word (i * 64) v ≡ eqb (bit word (v % 64)) 1
+unfolding inWord
+word-is word i v e =
+    let m : v - i * 64 ≡ v % 64 = omega arith in
+    rw (le-leb (i * 64) v (omega arith), lt-ltb v (i * 64 + 64) (omega arith), m)
 
 -- a location is marked in the word of a row that it falls in
 pub word-marked : (row : List ℕ) (i v : ℕ) → T (inWord (getD row i 0) (i * 64) v) → (v / 64 ≡ i) × T (marked row v)
@@ -251,7 +258,7 @@ module _ (one other : List ℕ) (seen i : ℕ) where
             (λ ne. (i, omega arith, small, ne));
       }
 
-  pub looked-all : Looked one other seen i → rowWords ≤ i → Meet one other (not (eqb seen 0))
+  pub looked-all : Looked one other seen i → rowWords ≤ i → Meet (marked one) (marked other) (not (eqb seen 0))
   looked-all l h =
       record {
         common = λ t. common (l .some (λ z. T-not (eqb seen 0) t (eq-T seen 0 z)));

@@ -62,7 +62,7 @@ pub record NoneMarked (row : List ℕ) (none : Bool) : Type 0 where
   pub empty : T none → (v : ℕ) → ¬ T (marked row v)
   pub some : T (not none) → (v : ℕ) × T (marked row v)
 
--- whether two rows have a mark in common
-pub record Meet (row other : List ℕ) (meet : Bool) : Type 0 where
-  pub common : T meet → (v : ℕ) × T (marked row v) × T (marked other v)
-  pub apart : T (not meet) → (v : ℕ) → T (marked row v) → ¬ T (marked other v)
+-- whether a location has two kinds of mark
+pub record Meet (marks other : ℕ → Bool) (meet : Bool) : Type 0 where
+  pub common : T meet → (v : ℕ) × T (marks v) × T (other v)
+  pub apart : T (not meet) → (v : ℕ) → T (marks v) → ¬ T (other v)

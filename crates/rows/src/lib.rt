@@ -1,7 +1,9 @@
-// Rows of marks, 64 to a word: sets of locations.
+// Rows of marks, 64 to a word: sets of locations; and ranges of locations by their numbers.
 ghost use mathlib.Core.Path.{_≡_};
-ghost use Prim.Native.Nat.{_<_};
+ghost use Prim.Native.Nat.{_+_, _-_, _<_};
 ghost use lib.ListN.{length};
+ghost use Rattle.lists.specs.Lists.{range, any};
+ghost use Rattle.rows.specs.Ranges.{noRange, UpTo, LeftOut};
 ghost use Rattle.rows.specs.Rows.{marked, With, Linked, Differ, Minus, NoneMarked, Meet, marksMax, rowWords};
 
 // The slots that rows have a place for.
@@ -10,6 +12,12 @@ pub const SLOTS: usize = 240;
 pub const LOCATIONS: usize = SLOTS + 1;
 // The words of a row, with 64 marks each.
 pub const WORDS: usize = 4;
+
+// Locations by their numbers: those above the first number, up to the second (01: the slots of a block).
+pub struct Range {
+    pub after: usize,
+    pub last: usize,
+}
 
 // Whether v is marked.
 pub fn has(row: &[u64; WORDS], v: usize) -> bool
@@ -84,7 +92,7 @@ pub fn none_marked(row: [u64; WORDS]) -> bool
 
 // Whether two rows have a mark in common. Every word is looked at, since a branch for each costs more.
 pub fn meet(row: [u64; WORDS], other: [u64; WORDS]) -> bool
-    ensures { λ r. ⌜ Meet row other r ⌝ }
+    ensures { λ r. ⌜ Meet (marked row) (marked other) r ⌝ }
 {
     let mut common: u64 = 0;
     let mut i: usize = 0;
@@ -93,4 +101,50 @@ pub fn meet(row: [u64; WORDS], other: [u64; WORDS]) -> bool
         i += 1;
     }
     common != 0
+}
+
+// The range of no location.
+pub fn no_range() -> Range
+    ensures { λ r. ⌜ r ≡ noRange ⌝ }
+{
+    Range { after: 0, last: 0 }
+}
+
+// Whether a row marks a location of a range.
+pub fn marks_any(row: &[u64; WORDS], r: Range) -> bool
+    requires { ⌜ r .last < marksMax ⌝ }
+    ensures { λ x. ⌜ x ≡ any (marked (now (row .entry))) (range (r .after + 1) (r .last - r .after)) ⌝ }
+{
+    let mut v = r.after;
+    while v < r.last {
+        v += 1;
+        if has(row, v) {
+            return true;
+        }
+    }
+    false
+}
+
+// The word whose first place is location base, with every location up to v marked.
+fn up_to(base: usize, v: usize) -> u64
+    requires { ⌜ base < marksMax ⌝ }
+    ensures { λ r. ⌜ UpTo base v r ⌝ }
+{
+    if v < base {
+        return 0;
+    }
+    if base + 63 <= v {
+        return 0xffff_ffff_ffff_ffff;
+    }
+    (2 << (v - base)) - 1
+}
+
+// The marks of a word, whose first place is location base, but for those of a range: these are told by their numbers.
+pub fn leave_out(word: u64, base: usize, r: Range) -> u64
+    requires { ⌜ base < marksMax ⌝ }
+    ensures { λ x. ⌜ LeftOut r word base x ⌝ }
+{
+    let last = up_to(base, r.last);
+    let places = last ^ (last & up_to(base, r.after));
+    word ^ (word & places)
 }

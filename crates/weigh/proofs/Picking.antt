@@ -1,5 +1,5 @@
 -- The sums over the endpoints that rows pick, endpoint by endpoint. Assumes nothing.
-use mathlib.Core.Path.{_≡_, refl, sym, ap, ap₂, _∙_, subst}
+use mathlib.Core.Path.{_≡_, refl, sym, _∙_, subst}
 use mathlib.Core.Bool.{Bool, true, false, not, _&&_, _||_}
 use mathlib.Core.List.{List, [], map}
 use Prim.Native.Nat.{ℕ, suc, _+_, _-_, _*_, _≤_}
@@ -8,7 +8,6 @@ use native.Mathlib.Nat.{add-zero}
 use lib.Dec.{T, not-T}
 use lib.ListN.{getD}
 use Rattle.lists.specs.Lists.{range, on, sum, any}
-use Rattle.lists.proofs.Ends.{sum-more, any-more}
 use Rattle.lists.proofs.Faults.{on-le}
 use Rattle.lists.proofs.Tests.{and-T, T-and}
 use Rattle.rows.specs.Rows.{marked, Minus, Meet}
@@ -17,7 +16,7 @@ use Rattle.weigh.specs.Sums.{Meets, LostRow, LostBetween, sumBetween, ma
 use Rattle.weigh.specs.declared.Lost.{Lost}
 
 -- two rows have a mark in common or they do not
-pub meet-one : (row other : List ℕ) (f g : Bool) → Meet row other f → Meet row other g → f ≡ g
+pub meet-one : (row other : ℕ → Bool) (f g : Bool) → Meet row other f → Meet row other g → f ≡ g
 meet-one row other true true a b = refl
 meet-one row other true false a b = let m = a .common tt in absurd (b .apart tt (m .0) (m .1) (m .2))
 meet-one row other false true a b = let m = b .common tt in absurd (a .apart tt (m .0) (m .1) (m .2))
@@ -26,14 +25,14 @@ meet-one row other false false a b = refl
 -- `gone` marks what `before` does and `after` does not
 module _ (row before after gone : List ℕ) (m : Minus before after gone) where
   -- a row that has a mark in common with what is gone has one with what was before
-  pub met-before : Meet row gone true → (f : Bool) → Meet row before f → true ≡ f
+  pub met-before : Meet (marked row) (marked gone) true → (f : Bool) → Meet (marked row) (marked before) f → true ≡ f
   met-before k true a = refl
   met-before k false a =
       let c = k .common tt in
       absurd (a .apart tt (c .0) (c .1) (and-T (marked before (c .0)) (not (marked after (c .0))) (subst T (m .marks (c .0)) (c .2)) .0))
 
   -- and a row that has none there keeps what it has in common with what was before
-  pub met-after : Meet row gone false → (f g : Bool) → Meet row before f → Meet row after g → false ≡ (f && not g)
+  pub met-after : Meet (marked row) (marked gone) false → (f g : Bool) → Meet (marked row) (marked before) f → Meet (marked row) (marked after) g → false ≡ (f && not g)
   met-after k false g a b = refl
   met-after k true true a b = refl
   met-after k true false a b =
@@ -49,77 +48,70 @@ pub added-miss : {hit : Bool} (a v : ℕ) {b : ℕ} → hit ≡ false → b ≡ 
 unfolding on
 added-miss a v h e = rw h (e ∙ sym (add-zero a))
 
--- the endpoints from 1 up to c are looked at
-pub record Picking (table : List (List ℕ)) (weights guarded before after : List ℕ) (lost : Lost) (c : ℕ) : Type 0 where
-  pub some : 1 ≤ c
-  pub small : lost .weight ≤ (c - 1) * weightMax
-  pub few : lost .count ≤ c - 1
-  pub between : LostBetween table weights guarded (c - 1) before after lost
+-- what is added of an endpoint that the first test picks and the second does not
+abbrev each : (ℕ → ℕ) → (ℕ → Bool) → (ℕ → Bool) → ℕ → ℕ
+each w f g u = on (f u && not (g u)) (w u)
+
+-- whether it is protected too
+abbrev guards : List ℕ → (ℕ → Bool) → (ℕ → Bool) → ℕ → Bool
+guards guarded f g u = marked guarded u && (f u && not (g u))
+
+-- the k endpoints above c are looked at
+pub record Picking (table : List (List ℕ)) (weights guarded before after : List ℕ) (lost : Lost) (c k : ℕ) : Type 0 where
+  pub small : lost .weight ≤ k * weightMax
+  pub few : lost .count ≤ k
+  pub weighs : (f g : ℕ → Bool) → Meets table before f → Meets table after g → lost .weight ≡ sum (map (each (λ u. getD weights u 0) f g) (range (suc c) k))
+  pub counts : (f g : ℕ → Bool) → Meets table before f → Meets table after g → lost .count ≡ sum (map (each (λ _. 1) f g) (range (suc c) k))
+  pub marks : (f g : ℕ → Bool) → Meets table before f → Meets table after g → lost .mark ≡ on (any (guards guarded f g) (range (suc c) k)) 1
 
 module _ (table : List (List ℕ)) (weights guarded before after : List ℕ) where
-  pub picking-begun : Picking table weights guarded before after (record { weight = 0; count = 0; mark = 0 }) 1
-  unfolding sumBetween markBetween range sum any on
-  picking-begun =
-      record {
-        some = omega arith;
-        small = omega arith;
-        few = omega arith;
-        between = record { weighs = λ f g a b. refl; counts = λ f g a b. refl; marks = λ f g a b. refl };
-      }
+  pub picking-begun : (c : ℕ) → Picking table weights guarded before after (record { weight = 0; count = 0; mark = 0 }) c 0
+  unfolding range sum any on
+  picking-begun c = record { small = omega arith; few = omega arith; weighs = λ f g a b. refl; counts = λ f g a b. refl; marks = λ f g a b. refl }
 
-  -- one endpoint more: it is lost or it is not
-  pub picking-next : (lost lost′ : Lost) (c : ℕ) (hit : Bool) → Picking table weights guarded before after lost c → getD weights c 0 ≤ weightMax
-      → LostRow (getD table c []) before after hit → lost′ .weight ≡ lost .weight + on hit (getD weights c 0) → lost′ .count ≡ lost .count + on hit 1
-      → on (marked guarded c && hit) 1 + on (not (marked guarded c && hit)) (lost .mark) ≡ lost′ .mark → Picking table weights guarded before after lost′ (c + 1)
-  unfolding sumBetween markBetween
-  picking-next lost lost′ c hit p h l e k m =
-      record {
-        some = omega arith;
-        small = omega (arith, p .small, on-le hit (getD weights c 0) weightMax (λ _. h));
-        few = omega (arith, p .few, on-le hit 1 1 (λ _. omega arith));
-        between =
-            record {
-              weighs = λ f g a b. e ∙ more (λ u. getD weights u 0) f g a b (p .between .weighs f g a b);
-              counts = λ f g a b. k ∙ more (λ _. 1) f g a b (p .between .counts f g a b);
-              marks =
-                  λ f g a b.
-                  sym m ∙ ap₂ (λ (x : Bool) (y : ℕ). on (marked guarded c && x) 1 + on (not (marked guarded c && x)) y) (here f g a b) (p .between .marks f g a b)
-                  ∙ either (any (test f g) (range 1 (c - 1))) (test f g c) ∙ ap (λ (x : Bool). on x 1) (any-next f g);
-            };
-      }
-    where
-      test : (ℕ → Bool) → (ℕ → Bool) → ℕ → Bool
-      test f g u = marked guarded u && (f u && not (g u))
+  -- one endpoint more, the one below them: it is lost or it is not
+  module _ (c k : ℕ) (hit : Bool) (l : LostRow (getD table (suc c) []) before after hit) where
+    here : (f g : ℕ → Bool) → Meets table before f → Meets table after g → hit ≡ (f (suc c) && not (g (suc c)))
+    here f g a b = l .same (f (suc c)) (g (suc c)) (a .meet (suc c)) (b .meet (suc c))
 
-      back : c + 1 - 1 ≡ suc (c - 1)
-      back = omega (arith, p .some)
+    sum-first : (w : ℕ → ℕ) (f g : ℕ → Bool) → Meets table before f → Meets table after g → {s : ℕ} → s ≡ sum (map (each w f g) (range (suc (suc c)) k))
+        → s + on hit (w (suc c)) ≡ sum (map (each w f g) (range (suc c) (suc k)))
+    unfolding range sum
+    sum-first w f g a b {s} e = rw (e, here f g a b) (omega arith)
 
-      last : 1 + (c - 1) ≡ c
-      last = omega (arith, p .some)
+    mark-first : (f g : ℕ → Bool) → Meets table before f → Meets table after g → {m : ℕ} → m ≡ on (any (guards guarded f g) (range (suc (suc c)) k)) 1
+        → on (marked guarded (suc c) && hit) 1 + on (not (marked guarded (suc c) && hit)) m ≡ on (any (guards guarded f g) (range (suc c) (suc k))) 1
+    unfolding range any
+    mark-first f g a b e = rw (e, here f g a b) (either (guards guarded f g (suc c)) (any (guards guarded f g) (range (suc (suc c)) k)))
+      where
+        either : (t a : Bool) → on t 1 + on (not t) (on a 1) ≡ on (t || a) 1
+        either true true = unfold on in refl
+        either true false = unfold on in refl
+        either false true = unfold on in refl
+        either false false = unfold on in refl
 
-      here : (f g : ℕ → Bool) → Meets table before f → Meets table after g → hit ≡ (f c && not (g c))
-      here f g a b = l .same (f c) (g c) (a .meet c) (b .meet c)
+    next : (lost lost′ : Lost) → Picking table weights guarded before after lost (suc c) k → getD weights (suc c) 0 ≤ weightMax
+        → lost′ .weight ≡ lost .weight + on hit (getD weights (suc c) 0) → lost′ .count ≡ lost .count + on hit 1
+        → on (marked guarded (suc c) && hit) 1 + on (not (marked guarded (suc c) && hit)) (lost .mark) ≡ lost′ .mark → Picking table weights guarded before after lost′ c (suc k)
+    next lost lost′ p h e n m =
+        record {
+          small = omega (arith, p .small, on-le hit (getD weights (suc c) 0) weightMax (λ _. h));
+          few = omega (arith, p .few, on-le hit 1 1 (λ _. omega arith));
+          weighs = λ f g a b. e ∙ sum-first (λ u. getD weights u 0) f g a b (p .weighs f g a b);
+          counts = λ f g a b. n ∙ sum-first (λ _. 1) f g a b (p .counts f g a b);
+          marks = λ f g a b. sym m ∙ mark-first f g a b (p .marks f g a b);
+        }
 
-      more : (w : ℕ → ℕ) (f g : ℕ → Bool) → Meets table before f → Meets table after g → {s : ℕ} → s ≡ sumBetween w (c - 1) f g
-          → s + on hit (w c) ≡ sumBetween w (c + 1 - 1) f g
-      more w f g a b s =
-          let each : ℕ → ℕ = λ u. on (f u && not (g u)) (w u) in
-          ap₂ (λ (x y : ℕ). x + y) s (ap (λ (x : Bool). on x (w c)) (here f g a b))
-          ∙ sym (ap (λ (k : ℕ). sum (map each (range 1 k))) back ∙ sum-more each 1 (c - 1) ∙ ap (λ (k : ℕ). sum (map each (range 1 (c - 1))) + each k) last)
-
-      any-next : (f g : ℕ → Bool) → (any (test f g) (range 1 (c - 1)) || test f g c) ≡ any (test f g) (range 1 (c + 1 - 1))
-      any-next f g =
-          sym
-          (ap (λ (k : ℕ). any (test f g) (range 1 k)) back ∙ any-more (test f g) 1 (c - 1) ∙ ap (λ (k : ℕ). any (test f g) (range 1 (c - 1)) || test f g k) last)
-
-      either : (a t : Bool) → on t 1 + on (not t) (on a 1) ≡ on (a || t) 1
-      either true true = unfold on in refl
-      either true false = unfold on in refl
-      either false true = unfold on in refl
-      either false false = unfold on in refl
+  pub picking-next : (c c′ k k′ : ℕ) → c ≡ suc c′ → k′ ≡ suc k → (hit : Bool) → LostRow (getD table c []) before after hit → (lost lost′ : Lost)
+      → Picking table weights guarded before after lost c k → getD weights c 0 ≤ weightMax
+      → lost′ .weight ≡ lost .weight + on hit (getD weights c 0) → lost′ .count ≡ lost .count + on hit 1
+      → on (marked guarded c && hit) 1 + on (not (marked guarded c && hit)) (lost .mark) ≡ lost′ .mark → Picking table weights guarded before after lost′ c′ k′
+  picking-next c c′ k k′ e n = rw (e, n) (next c′ k)
 
   -- every endpoint was looked at
-  pub picking-ended : (lost : Lost) (c d : ℕ) → Picking table weights guarded before after lost c → c ≡ d + 1 → LostBetween table weights guarded d before after lost
-  picking-ended lost c d p e =
-      let all : c - 1 ≡ d = omega arith in
-      subst (λ (k : ℕ). LostBetween table weights guarded k before after lost) all (p .between)
+  all : (lost : Lost) (d : ℕ) → Picking table weights guarded before after lost 0 d → LostBetween table weights guarded d before after lost
+  unfolding sumBetween markBetween
+  all lost d p = record { weighs = p .weighs; counts = p .counts; marks = p .marks }
+
+  pub picking-ended : (lost : Lost) (c k d : ℕ) → c ≡ 0 → k ≡ d → Picking table weights guarded before after lost c k → LostBetween table weights guarded d before after lost
+  picking-ended lost c k d z e = rw (z, e) (all lost d)

@@ -1,17 +1,16 @@
 -- What the rows of a picture give: the walk over them reaches what chains reach, their common marks are service, and the sums over them
 -- are the weights of the specification. Assumes nothing.
 use mathlib.Core.Path.{_≡_, refl, sym, ap, ap₂, _∙_, subst, subst₂, fun-ext}
-use mathlib.Core.Bool.{Bool, false, not, _&&_, _||_, and-true}
+use mathlib.Core.Bool.{Bool, false, not, _&&_, and-true}
 use mathlib.Core.List.{List, [], map}
-use Prim.Native.Nat.{ℕ, zero, suc, _+_, _*_, _≤_}
-use native.Mathlib.Omega.{arith}
-use borrow.Author.Tests.{lt-leb}
-use lib.Dec.{T, T-not, leb, eqb·suc-zero}
+use Prim.Native.Nat.{ℕ, suc, _≤_}
+use lib.Dec.{T, T-not}
 use lib.ListN.{length, getD}
 use Rattle.lists.specs.Lists.{range, on, sum, any}
-use Rattle.lists.proofs.Tests.{and-T}
-use Rattle.rows.specs.Rows.{marked, linkedIn, Meet, Minus, locationsMax}
-use Rattle.graph.specs.Held.{heldIn, SlotsOnly}
+use Rattle.rows.specs.Rows.{marked, linkedIn, Meet, locationsMax}
+use Rattle.rows.specs.Ranges.{noRange, inRange, without}
+use Rattle.rows.proofs.Ranges.{none-without}
+use Rattle.graph.specs.Held.{heldIn}
 use Rattle.graph.specs.Chains.{Reached}
 use Rattle.graph.specs.Steps.{Walked}
 use Rattle.picture.specs.Layout.{endpointsMax}
@@ -21,7 +20,7 @@ use Rattle.picture.specs.Inner.{Read}
 use Rattle.picture.proofs.Facts.{read-limited}
 use Rattle.network.specs.Words.{endpointCount, inBlock, isHeld, heldWithout, joins, weightOf, Named}
 use Rattle.network.specs.Tests.{marks, served, cut, sumWhere, servedWeight, weighed}
-use Rattle.network.specs.Rows.{RowsOf, SlotRowsOf, EndpointsOf, BlockRow}
+use Rattle.network.specs.Rows.{RowsOf, SlotRowsOf, EndpointsOf, blockRange}
 use Rattle.network.proofs.Service.{marked-served, served-marked}
 use Rattle.network.proofs.Weights.{weight-small}
 use Rattle.weigh.specs.Sums.{Small, Meets, LostBetween, sumBetween, markBetween}
@@ -29,28 +28,29 @@ use Rattle.weigh.specs.declared.Lost.{Lost}
 
 -- ---- the walk
 
--- a walk over rows that say what the picture says is a walk over the picture
-pub walked-over : (p : Picture) (held : ℕ → Bool) (table : List (List ℕ)) (row : List ℕ) (reaches : ℕ → Bool) (parent depth : List ℕ)
-    → RowsOf locationsMax (joins (p .links)) table → ((v : ℕ) → heldIn row v ≡ held v)
-    → Walked (linkedIn table) (heldIn row) reaches parent depth → Walked (joins (p .links)) held reaches parent depth
-walked-over p held table row reaches parent depth t h w =
+-- a walk by rows is a walk by what they say
+walked-over : {linked : ℕ → ℕ → Bool} {held kept reaches : ℕ → Bool} {table : List (List ℕ)} {parent depth : List ℕ}
+    → RowsOf locationsMax linked table → ((v : ℕ) → kept v ≡ held v) → Walked (linkedIn table) kept reaches parent depth → Walked linked held reaches parent depth
+walked-over {reaches = reaches} {parent = parent} {depth = depth} t h w =
     subst₂ (λ (l : ℕ → ℕ → Bool) (k : ℕ → Bool). Walked l k reaches parent depth) (fun-ext (λ a. fun-ext (λ b. t .same a b))) (fun-ext h) w
 
--- the held slots less those of a block
-module _ (p : Picture) (b : ℕ) (holding nearby block left : List ℕ) (s : SlotRowsOf p holding nearby) (k : BlockRow (p .blockSize) b block)
-    (m : Minus holding block left) where
-  pub left-slots : SlotsOnly left
-  left-slots = record { above = λ v t. s .slots .above v (was v t); within = λ v t. s .slots .within v (was v t) }
-    where
-      was : (v : ℕ) → T (marked left v) → T (marked holding v)
-      was v t = and-T (marked holding v) (not (marked block v)) (subst T (m .marks v) t) .0
+module _ {p : Picture} {holding nearby : List ℕ} (s : SlotRowsOf p holding nearby) where
+  -- the row holds, outside no slots, what is held, and outside a block what is held without it
+  pub now-held : (v : ℕ) → without noRange (heldIn holding) v ≡ isHeld p v
+  now-held v = none-without (heldIn holding) v ∙ s .held v
 
-  pub left-held : (v : ℕ) → heldIn left v ≡ heldWithout p b v
-  unfolding heldIn heldWithout inBlock isHeld
-  left-held zero = sym (ap (λ (y : Bool). not (y && leb 0 (b * p .blockSize + p .blockSize))) (lt-leb (b * p .blockSize + 1) 0 (omega arith)))
-  left-held (suc i) =
-      ap (λ (x : Bool). x || marked left (suc i)) (eqb·suc-zero i) ∙ m .marks (suc i)
-      ∙ ap₂ (λ (x y : Bool). x && not y) (sym (ap (λ (x : Bool). x || marked holding (suc i)) (eqb·suc-zero i)) ∙ s .held (suc i)) (k .marks (suc i))
+  pub left-held : (b v : ℕ) → without (blockRange (p .blockSize) b) (heldIn holding) v ≡ heldWithout p b v
+  unfolding without inRange heldWithout inBlock
+  left-held b v = rw (s .held v)
+
+  -- so are walks through these slots
+  module _ {table : List (List ℕ)} {reaches : ℕ → Bool} {parent depth : List ℕ} (t : RowsOf locationsMax (joins (p .links)) table) where
+    pub now-walked : Walked (linkedIn table) (without noRange (heldIn holding)) reaches parent depth → Walked (joins (p .links)) (isHeld p) reaches parent depth
+    now-walked = walked-over t now-held
+
+    pub left-walked : {size : ℕ} (b : ℕ) → p .blockSize ≡ size → Walked (linkedIn table) (without (blockRange size b) (heldIn holding)) reaches parent depth
+        → Walked (joins (p .links)) (heldWithout p b) reaches parent depth
+    left-walked b e w = walked-over t (left-held b) (rw (← e) at w)
 
 -- ---- service
 
@@ -60,7 +60,7 @@ pub serving : (p : Picture) (held : ℕ → Bool) {table : List (List ℕ)} {row
 unfolding linkedIn
 serving p held {table} {row} n t marks-reached reached-marks = record { meet = meet }
   where
-    meet : (c : ℕ) → Meet (getD table c []) row (served p (marks p held) c)
+    meet : (c : ℕ) → Meet (marked (getD table c [])) (marked row) (served p (marks p held) c)
     meet c =
         record {
           common = λ s. let r = marked-served p held c s in (r .location, subst T (sym (t .same c (r .location))) (r .serves), reached-marks (r .location) (r .reached));

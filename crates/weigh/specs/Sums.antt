@@ -11,11 +11,11 @@ use Rattle.weigh.specs.declared.Lost.{Lost}
 
 -- a row has a mark in common with one row and none with another
 pub record LostRow (row before after : List ℕ) (lost : Bool) : Type 0 where
-  pub same : (f g : Bool) → Meet row before f → Meet row after g → lost ≡ (f && not g)
+  pub same : (f g : Bool) → Meet (marked row) (marked before) f → Meet (marked row) (marked after) g → lost ≡ (f && not g)
 
 -- f says of each row of a table whether it has a mark in common with a row
 pub record Meets (table : List (List ℕ)) (row : List ℕ) (f : ℕ → Bool) : Type 0 where
-  pub meet : (c : ℕ) → Meet (getD table c []) row (f c)
+  pub meet : (c : ℕ) → Meet (marked (getD table c [])) (marked row) (f c)
 
 -- the sum of w over the endpoints 1 to d that the first test picks and the second does not
 unfoldable pub sumBetween : (ℕ → ℕ) → ℕ → (ℕ → Bool) → (ℕ → Bool) → ℕ

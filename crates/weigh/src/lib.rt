@@ -79,8 +79,9 @@ pub fn lost_between(
     let gone = rows::minus(before, after);
     let mut sum: u32 = 0;
     let mut mark: u8 = 0;
-    let mut c: usize = 1;
-    while c <= d {
+    // Down to the first: so the loop has one count to keep.
+    let mut c = d;
+    while 0 < c {
         let row = services[c];
         let lost = is_lost(row, gone, after);
         if lost {
@@ -89,7 +90,7 @@ pub fn lost_between(
         if is_lost_protected(lost, &protected, c) {
             mark = 1;
         }
-        c += 1;
+        c -= 1;
     }
     Lost {
         weight: sum / SUM_UNIT,
@@ -113,9 +114,8 @@ pub fn weigh_block(s: &[u8], h: Header, b: usize) -> Weights
     let protected = network::endpoint_rows(s, h, &mut weights);
     let slots = network::slot_rows(s, h);
     let held = slots.held;
-    let left = rows::minus(held, network::block_row(size, b));
-    let before = graph::walk(links, held);
-    let after = graph::walk(links, left);
+    let before = graph::walk(links, held, rows::no_range());
+    let after = graph::walk(links, held, network::block_range(size, b));
     let reached = before.reached;
     let still = after.reached;
     let none = [0u64; WORDS];

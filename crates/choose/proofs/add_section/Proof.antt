@@ -1,22 +1,35 @@
 -- `add_section` weighs a candidate and writes its section. Assumes nothing.
-use mathlib.Core.Path.{_≡_, sym}
+use mathlib.Core.Path.{_≡_}
 use lib.ListN.{length}
-use Rattle.rows.specs.Rows.{locationsMax}
+use Rattle.rows.specs.Rows.{marked, linkedIn, locationsMax}
+use Rattle.rows.specs.Ranges.{without}
+use Rattle.graph.specs.Held.{heldIn}
+use Rattle.graph.specs.Steps.{Walked}
+use Rattle.network.specs.Rows.{blockRange}
+use Rattle.network.proofs.Blocks.{read-block}
 use Rattle.weigh.proofs.Serving.{sums-ready}
 use Rattle.choose.proofs.Sections.{section-fits, lost-cost, section-done}
 use borrow.Author.Needs.{needs}
 use Rattle.choose.proofs.add_section.Statement.{statement}
 use Rattle.choose.proofs.add_section.Tie as tie
 
--- the walk, and where the function begins
-abbrev walked : tie.After-depth → tie.After-walk
-walked c = c .before .before .before
+-- where the sums are made, and where the function begins
+abbrev lost : tie.After-put-section-arg5 → tie.After-lost-between
+lost c = c .before .before .before .before .before .before .before .before .before
 
-abbrev start : tie.After-depth → tie.Start
-start c = walked c .before .before .before
+abbrev start : tie.After-still → tie.Start
+start c = c .before .before .before .before .before
+
+block-range-requires : tie.Need-block-range-requires
+block-range-requires c κs = let p = c .before .before .pre in read-block _ _ (p .rows .read) _ (p .block)
 
 walk-requires : tie.Need-walk-requires
 walk-requires c κs = search needs
+
+-- the walk without the block
+rest : (c : tie.After-walk) → let a = c .before .before .before .before .args in
+    let r = c .walk .result in Walked (linkedIn (a .links .now)) (without (blockRange (a .h .«block_size») (a .b)) (heldIn (a .held))) (marked (r .reached)) (r .parent) (r .depth)
+rest c = rw (c .before .block-range .ensures) at (c .walk .ensures)
 
 lost-between-requires : tie.Need-lost-between-requires
 lost-between-requires c κs = let r = start c .pre .rows in sums-ready _ _ (r .read) (r .services) (r .ends)
@@ -31,44 +44,37 @@ cast-t22 : tie.Need-cast-t22
 cast-t22 c = search needs
 
 -- the forest has a parent and a depth for every location
-parents : (c : tie.After-lost-between) → length (walked (c .before) .walk .result .parent) ≡ locationsMax
+parents : (c : tie.After-lost-between) → length (c .before .before .walk .result .parent) ≡ locationsMax
 parents c = search needs
 
-depths : (c : tie.After-lost-between) → length (walked (c .before) .walk .result .depth) ≡ locationsMax
+depths : (c : tie.After-lost-between) → length (c .before .before .walk .result .depth) ≡ locationsMax
 depths c = search needs
-
-slice-aggregate-put-section : tie.Need-slice-aggregate-put-section
-slice-aggregate-put-section c = sym (parents (c .before .before .before .before .before))
-
-slice-aggregate-put-section-2 : tie.Need-slice-aggregate-put-section-2
-slice-aggregate-put-section-2 c = sym (depths (c .before .before .before .before .before .before))
 
 put-section-requires : tie.Need-put-section-requires
 put-section-requires c κs =
-    let s = c .before .before .before .before .before .before in
+    let s = lost c in
     let p = start (s .before) .pre in
-    let cost = lost-cost (p .rows) (p .left) (walked (s .before) .walk .ensures) (s .lost-between .ensures) in
+    let cost = lost-cost (p .rows) _ (p .slots) (rest (s .before .before)) (s .lost-between .ensures) in
     section-fits (p .rows) cost (p .block) (p .room) (parents s) (depths s)
 
 same-length : tie.Need-same-length
 same-length c = search needs
 
 returns : tie.Need-returns
-returns c = λ bs r l.
-    let s = c .before .before .before .before .before .before .before .before .before in
-    section-done r l (walked (s .before) .walk .ensures) (s .lost-between .ensures) (c .before .before .put-section .ensures)
+returns c = λ bs near r l.
+    let s = lost (c .before .before .before) in
+    section-done r _ l (rest (s .before .before)) (s .lost-between .ensures) (c .before .before .put-section .ensures)
 
 pub add-section-spec : {M : Type 1} → statement M
 add-section-spec =
     tie.close
     (tie.spec
+    block-range-requires
     walk-requires
     lost-between-requires
     cast-t20
     cast-t21
     cast-t22
-    slice-aggregate-put-section
-    slice-aggregate-put-section-2
     put-section-requires
     same-length
     returns)

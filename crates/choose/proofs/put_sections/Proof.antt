@@ -16,7 +16,6 @@ use Rattle.network.proofs.Blocks.{read-block-size, read-block, read-blocks, rea
 use Rattle.evidence.specs.declared.Choice.{Choice}
 use Rattle.evidence.proofs.Fields.{blocks-small}
 use Rattle.choose.specs.Sections.{WeighRows, Room}
-use Rattle.choose.proofs.Sections.{read-left}
 use Rattle.choose.proofs.Gathering.{weighedBelow, below-hit, below-miss, below-all, below-fewer}
 use Rattle.choose.proofs.Gathering.{SectionsDone, sections-begun, sections-hit, sections-ended, room-more}
 use borrow.Author.Needs.{needs}
@@ -41,7 +40,7 @@ abbrev start : tie.In-loop Inv-loop μ-loop → tie.Start Inv-loop μ-loop
 start c = c .before .before .before
 
 abbrev hit : tie.After-better Inv-loop μ-loop → tie.Then1 Inv-loop μ-loop
-hit c = c .before .before .before .before .before .before .before
+hit c = c .before .before .before .before .before
 
 -- the block at hand is one of the picture's
 below : (c : tie.In-loop Inv-loop μ-loop) → c .before .loop .b < blockCount (pictureOf (start c .pre .bytes))
@@ -69,23 +68,17 @@ loop-holds c = record { within = omega arith; done = λ bs r s. sections-begun (
 is-candidate-requires : tie.Need-is-candidate-requires Inv-loop μ-loop
 is-candidate-requires c κs = read-block _ _ (start (c .before) .pre .rows .read) _ (below (c .before))
 
-block-row-requires : tie.Need-block-row-requires Inv-loop μ-loop
-block-row-requires c κs = let l = c .before .before .before in read-block _ _ (start l .pre .rows .read) _ (below l)
-
-minus-requires : tie.Need-minus-requires Inv-loop μ-loop
-minus-requires c κs = search needs
-
 add-section-requires : tie.Need-add-section-requires Inv-loop μ-loop
 add-section-requires c κs =
-    let m = c .before in
-    let t = m .before .before in
+    let t = c .before in
     let l = t .before .before .before in
     let p = start l .pre in
     record {
       bytes = p .bytes;
       rows = p .rows;
       block = below l;
-      left = read-left (p .rows .read) (p .slots) (m .before .block-row .ensures) (m .minus .ensures);
+      nearby = _;
+      slots = p .slots;
       room = room t;
     }
 
@@ -114,9 +107,9 @@ loop-again c =
           let n = read-slots _ _ (r .read) in
           let k = sym (candidate (c .before) bs (r .read) s) in
           ⊎-elim
-          (λ w. let left = read-left (r .read) s (w .1 .ensures) (w .2 .ensures) in
-          rw (w .9, w .10, w .11, below-hit p (l .b) (k ∙ w .0 .taken))
-          (sections-hit p n (l .inv .done bs r s) (w .4 .ensures bs r left) (w .7 .ensures) (w .8 .ensures)))
+          (λ w.
+          rw (w .7, w .8, w .9, below-hit p (l .b) (k ∙ w .0 .taken))
+          (sections-hit p n (l .inv .done bs r s) (w .2 .ensures bs _ r s) (w .5 .ensures) (w .6 .ensures)))
           (λ w. rw (w .1, w .2, w .3, below-miss p (l .b) (k ∙ w .0 .left)) (l .inv .done bs r s))
           (c .if1 .came);
     }
@@ -139,8 +132,6 @@ put-sections-spec =
     div-blocks
     loop-holds
     is-candidate-requires
-    block-row-requires
-    minus-requires
     add-section-requires
     better-requires
     section-bytes-requires

@@ -14,7 +14,7 @@ use Rattle.rows.proofs.Marks.{clear}
 use Rattle.network.proofs.Making.{clear-made}
 use Rattle.network.proofs.Named.{accepted-named}
 use Rattle.network.proofs.Blocks.{read-endpoints}
-use Rattle.weigh.proofs.Serving.{walked-over, sums-ready, walk-meets, served-met}
+use Rattle.weigh.proofs.Serving.{now-walked, sums-ready, walk-meets, served-met}
 use Rattle.evidence.specs.Calls.{lengthFor}
 use Rattle.evidence.proofs.Places.{head-whole}
 use Rattle.evidence.proofs.Lengths.{sectionsStart}
@@ -27,16 +27,16 @@ use Rattle.choose.proofs.write_evidence.Tie as tie
 -- ---- the places of the code, each from the next
 
 abbrev linked : tie.After-walk → tie.After-link-rows
-linked c = c .before .before .before .before .before
+linked c = c .before .before .before .before .before .before
 
 abbrev start : tie.After-walk → tie.Start
 start c = linked c .before .before .before .before .before .before
 
 abbrev walked : tie.After-lost-between → tie.After-walk
-walked c = c .before .before .before .before .before .before
+walked c = c .before .before .before .before
 
 abbrev lost : tie.After-put-forest → tie.After-lost-between
-lost c = c .before .before .before .before
+lost c = c .before .before .before .before .before .before .before
 
 abbrev planted : tie.After-put-sections → tie.After-put-forest
 planted c = c .before .before .before .before .before .before .before
@@ -51,8 +51,8 @@ fits : (c : tie.After-walk) → lengthFor (bytes c) ≤ length (start c .args .b
 fits c = let p = start c .pre in omega (arith, p .planned .long, p .room)
 
 -- the rows of the picture
-abbrev rows : (c : tie.After-walk) → let links = linked c .link-rows in let services = c .before .before .before .service-link-rows in
-    let ends = c .before .endpoint-rows in
+abbrev rows : (c : tie.After-walk) → let links = linked c .link-rows in let services = c .before .before .before .before .service-link-rows in
+    let ends = c .before .before .endpoint-rows in
     WeighRows (bytes c) (start c .args .h) (links .last .1 .1 .0) (services .last .1 .1 .0) (ends .last .1 .1 .0) (ends .result) (c .walk .result .reached)
 rows c =
     let links = linked c .link-rows .ensures in
@@ -60,11 +60,11 @@ rows c =
     record {
       read = p .read;
       links = links;
-      services = c .before .before .before .service-link-rows .ensures;
-      ends = c .before .endpoint-rows .ensures;
+      services = c .before .before .before .before .service-link-rows .ensures;
+      ends = c .before .before .endpoint-rows .ensures;
       parents = c .walk .result .parent;
       depths = c .walk .result .depth;
-      now = walked-over (pictureOf (bytes c)) _ _ _ _ _ _ links (p .planned .slots .held) (c .walk .ensures);
+      now = now-walked (p .planned .slots) links (rw (c .before .no-range .ensures) at (c .walk .ensures));
     }
 
 -- all that is served
@@ -91,21 +91,18 @@ service-link-rows-requires c κs = (c .before .before .before .before .before .b
 endpoint-rows-requires : tie.Need-endpoint-rows-requires
 endpoint-rows-requires c κs = search needs
 
+no-range-requires : tie.Need-no-range-requires
+no-range-requires c κs = search needs
+
 walk-requires : tie.Need-walk-requires
 walk-requires c κs = search needs
 
 lost-between-requires : tie.Need-lost-between-requires
-lost-between-requires c κs = let r = rows (c .before .before .before .before .before) in sums-ready _ _ (r .read) (r .services) (r .ends)
-
-slice-aggregate-put-forest : tie.Need-slice-aggregate-put-forest
-slice-aggregate-put-forest c = search needs
-
-slice-aggregate-put-forest-2 : tie.Need-slice-aggregate-put-forest-2
-slice-aggregate-put-forest-2 c = search needs
+lost-between-requires c κs = let r = rows (c .before .before .before) in sums-ready _ _ (r .read) (r .services) (r .ends)
 
 put-forest-requires : tie.Need-put-forest-requires
 put-forest-requires c κs =
-    let w = walked (c .before .before .before) in
+    let w = walked (c .before .before .before .before .before .before) in
     let r = start w .pre .read in
     let p : length (w .walk .result .parent) ≡ locationsMax = search needs in
     let d : length (w .walk .result .depth) ≡ locationsMax = search needs in
@@ -154,10 +151,9 @@ write-evidence-spec =
     link-rows-requires
     service-link-rows-requires
     endpoint-rows-requires
+    no-range-requires
     walk-requires
     lost-between-requires
-    slice-aggregate-put-forest
-    slice-aggregate-put-forest-2
     put-forest-requires
     mul-at
     add-at

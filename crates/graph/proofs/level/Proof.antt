@@ -8,10 +8,10 @@ use Rattle.graph.proofs.level.Statement.{statement}
 use Rattle.graph.proofs.level.Tie as tie
 
 abbrev Inv-loop : tie.InvT-loop
-Inv-loop links fresh₀ parent₀ depth₀ d frontier i₀ fresh parent depth i = RowSweeping links frontier d i fresh₀ parent₀ depth₀ fresh parent depth
+Inv-loop links block fresh₀ parent₀ depth₀ d frontier i₀ fresh parent depth i = RowSweeping block links frontier d i fresh₀ parent₀ depth₀ fresh parent depth
 
 abbrev μ-loop : tie.MeasureT-loop
-μ-loop links fresh₀ parent₀ depth₀ d frontier i₀ fresh parent depth i = rowWords - i
+μ-loop links block fresh₀ parent₀ depth₀ d frontier i₀ fresh parent depth i = rowWords - i
 
 loop-holds : tie.Need-loop-holds Inv-loop μ-loop
 loop-holds c = row-sweep-begun (search needs) (c .pre .1)

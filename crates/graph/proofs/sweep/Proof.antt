@@ -4,15 +4,15 @@ use Prim.Native.Nat.{_-_}
 use native.Mathlib.Omega.{arith}
 use Rattle.rows.specs.Rows.{rowWords}
 use borrow.Author.Needs.{needs}
-use Rattle.graph.proofs.Takes.{Sweeping, common-locations, begun, hit, miss, ended}
+use Rattle.graph.proofs.Takes.{Sweeping, new-locations, begun, hit, miss, ended}
 use Rattle.graph.proofs.sweep.Statement.{statement}
 use Rattle.graph.proofs.sweep.Tie as tie
 
 abbrev Inv-loop : tie.InvT-loop
-Inv-loop fresh₀ parent₀ depth₀ u d row k₀ fresh parent depth k = Sweeping row u d k fresh₀ parent₀ depth₀ fresh parent depth
+Inv-loop block fresh₀ parent₀ depth₀ u d row k₀ fresh parent depth k = Sweeping block row u d k fresh₀ parent₀ depth₀ fresh parent depth
 
 abbrev μ-loop : tie.MeasureT-loop
-μ-loop fresh₀ parent₀ depth₀ u d row k₀ fresh parent depth k = rowWords - k
+μ-loop block fresh₀ parent₀ depth₀ u d row k₀ fresh parent depth k = rowWords - k
 
 loop-holds : tie.Need-loop-holds Inv-loop μ-loop
 loop-holds c = begun (search needs) (c .pre)
@@ -23,11 +23,17 @@ mul-old c = search needs
 element-copy-out-old : tie.Need-element-copy-out-old Inv-loop μ-loop
 element-copy-out-old c = search needs
 
-mul-found : tie.Need-mul-found Inv-loop μ-loop
-mul-found c = search needs
+mul-leave-out : tie.Need-mul-leave-out Inv-loop μ-loop
+mul-leave-out c = search needs
 
-array-read-found : tie.Need-array-read-found Inv-loop μ-loop
-array-read-found c = search needs
+array-read-leave-out : tie.Need-array-read-leave-out Inv-loop μ-loop
+array-read-leave-out c = search needs
+
+mul-leave-out-2 : tie.Need-mul-leave-out-2 Inv-loop μ-loop
+mul-leave-out-2 c = search needs
+
+leave-out-requires : tie.Need-leave-out-requires Inv-loop μ-loop
+leave-out-requires c κs = search needs
 
 mul-fresh : tie.Need-mul-fresh Inv-loop μ-loop
 mul-fresh c = search needs
@@ -40,9 +46,10 @@ mul-enter c = search needs
 
 enter-requires : tie.Need-enter-requires Inv-loop μ-loop
 enter-requires c κs =
-    let l = c .before .before .before .before .before in
+    let o = c .before .before .before in
+    let l = o .before .before .before in
     let ready = l .loop .inv .swept .ready in
-    (common-locations (l .before .args .t1) (l .loop .fresh) (l .loop .k) (ready .locations), ready .whole)
+    (new-locations (l .before .args .t1) (l .loop .fresh) (l .loop .k) _ (o .leave-out .ensures) (ready .locations), ready .whole)
 
 add-k : tie.Need-add-k Inv-loop μ-loop
 add-k c = search needs
@@ -52,10 +59,11 @@ loop-less c = search needs
 
 loop-again : tie.Need-loop-again Inv-loop μ-loop
 loop-again c =
-    let i = c .before .before .before .loop .inv in
+    let i = c .before .before .before .before .loop .inv in
+    let o = c .before .leave-out .ensures in
     ⊎-elim
-    (λ w. rw (w .4, w .5, w .6) (hit i (omega arith) (w .3 .ensures)))
-    (λ w. rw (w .1, w .2, w .3) (miss i (omega arith) (search needs)))
+    (λ w. rw (w .4, w .5, w .6) (hit i (omega arith) o (w .3 .ensures)))
+    (λ w. rw (w .1, w .2, w .3) (miss i (omega arith) o (w .0 .left)))
     (c .if1 .came)
 
 returns : tie.Need-returns Inv-loop μ-loop
@@ -70,8 +78,10 @@ sweep-spec =
     loop-holds
     mul-old
     element-copy-out-old
-    mul-found
-    array-read-found
+    mul-leave-out
+    array-read-leave-out
+    mul-leave-out-2
+    leave-out-requires
     mul-fresh
     element-write-fresh
     mul-enter

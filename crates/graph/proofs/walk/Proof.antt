@@ -9,10 +9,10 @@ use Rattle.graph.proofs.walk.Statement.{statement}
 use Rattle.graph.proofs.walk.Tie as tie
 
 abbrev Inv-loop : tie.InvT-loop
-Inv-loop held links parent₀ depth₀ fresh₀ frontier₀ d₀ parent depth fresh frontier d = Walking links held d frontier fresh parent depth
+Inv-loop held block links parent₀ depth₀ fresh₀ frontier₀ d₀ parent depth fresh frontier d = Walking block links held d frontier fresh parent depth
 
 abbrev μ-loop : tie.MeasureT-loop
-μ-loop held links parent₀ depth₀ fresh₀ frontier₀ d₀ parent depth fresh frontier d = slotsMax - d
+μ-loop held block links parent₀ depth₀ fresh₀ frontier₀ d₀ parent depth fresh frontier d = slotsMax - d
 
 -- the loop's test, where the next level is called
 abbrev turn : tie.After-depth Inv-loop μ-loop → tie.At-loop Inv-loop μ-loop

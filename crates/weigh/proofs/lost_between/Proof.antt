@@ -18,11 +18,11 @@ use Rattle.weigh.proofs.lost_between.Statement.{statement}
 use Rattle.weigh.proofs.lost_between.Tie as tie
 
 record Loop (services : List (List ℕ)) (weights protected : List ℕ) (d : ℕ) (gone after : List ℕ) (lost : Lost) (c : ℕ) : Type 0 where
-  pub within : c ≤ d + 1
+  pub within : c ≤ d
   pub few : d ≤ endpointsMax
   pub many : length services ≡ suc endpointsMax
   pub small : Small weights
-  pub picking : (before : List ℕ) → Minus before after gone → Picking services weights protected before after lost c
+  pub picking : (before : List ℕ) → Minus before after gone → Picking services weights protected before after lost c (d - c)
 
 -- weight and number are in one word
 abbrev parted : ℕ → ℕ → Lost
@@ -32,7 +32,7 @@ abbrev Inv-loop : tie.InvT-loop
 Inv-loop services weights d after protected gone sum₀ mark₀ c₀ sum mark c = Loop services weights protected d gone after (parted sum mark) c
 
 abbrev μ-loop : tie.MeasureT-loop
-μ-loop services weights d after protected gone sum₀ mark₀ c₀ sum mark c = d + 1 - c
+μ-loop services weights d after protected gone sum₀ mark₀ c₀ sum mark c = c
 
 -- the places of the code: the loop's test, and where the endpoint at hand is found lost or not
 abbrev turn : tie.After-is-lost Inv-loop μ-loop → tie.At-loop Inv-loop μ-loop
@@ -70,7 +70,7 @@ minus-requires c κs = search needs
 
 loop-holds : tie.Need-loop-holds Inv-loop μ-loop
 loop-holds c =
-    record { within = omega arith; few = c .before .pre .2; many = c .before .pre .1; small = c .before .pre .0; picking = λ before m. picking-begun _ _ _ _ _ }
+    record { within = omega arith; few = c .before .pre .2; many = c .before .pre .1; small = c .before .pre .0; picking = λ before m. let none : c .before .args .d - c .before .args .d ≡ 0 = omega arith in rw none (picking-begun _ _ _ _ _ _) }
 
 mul-row : tie.Need-mul-row Inv-loop μ-loop
 mul-row c = search needs
@@ -101,8 +101,8 @@ add-sum-2 c =
 is-lost-protected-requires : tie.Need-is-lost-protected-requires Inv-loop μ-loop
 is-lost-protected-requires c κs = search needs
 
-add-c : tie.Need-add-c Inv-loop μ-loop
-add-c c = search needs
+sub-c : tie.Need-sub-c Inv-loop μ-loop
+sub-c c = search needs
 
 loop-less : tie.Need-loop-less Inv-loop μ-loop
 loop-less c = search needs
@@ -110,13 +110,15 @@ loop-less c = search needs
 loop-again : tie.Need-loop-again Inv-loop μ-loop
 loop-again c =
     let l = turn (looked c) .loop in
+    let test = looked c .before .before .loop-test .taken in
     record {
       within = omega arith;
       few = l .inv .few;
       many = l .inv .many;
       small = l .inv .small;
       picking = λ before m.
-          picking-next _ _ _ _ _ _ _ (l .c) _ (l .inv .picking before m) (l .inv .small .weight (l .c)) (looked c .is-lost .ensures before m)
+          picking-next _ _ _ _ _ (l .c) _ _ _ (omega (arith, test)) (omega (arith, test, l .inv .within)) _ (looked c .is-lost .ensures before m) _ _ (l .inv .picking before m)
+          (l .inv .small .weight (l .c))
           (sums-next (c .before .before .before) .0) (sums-next (c .before .before .before) .1) (mark-next c);
     }
 
@@ -124,7 +126,9 @@ cast-t29 : tie.Need-cast-t29 Inv-loop μ-loop
 cast-t29 c = omega arith
 
 returns : tie.Need-returns Inv-loop μ-loop
-returns c = picking-ended _ _ _ _ _ _ (c .before .loop .c) _ (c .before .loop .inv .picking _ (c .before .before .minus .ensures)) (omega (arith, c .before .loop .inv .within))
+returns c =
+    let l = c .before .loop in
+    picking-ended _ _ _ _ _ _ (l .c) _ _ (omega (arith, c .loop-test .left)) (omega (arith, c .loop-test .left)) (l .inv .picking _ (c .before .before .minus .ensures))
 
 pub lost-between-spec : {M : Type 1} → statement M
 lost-between-spec =
@@ -143,7 +147,7 @@ lost-between-spec =
     add-sum
     add-sum-2
     is-lost-protected-requires
-    add-c
+    sub-c
     loop-less
     loop-again
     cast-t29

@@ -1,11 +1,17 @@
 -- `parts_fault` goes over the parts of evidence up to the first fault. Assumes nothing.
-use mathlib.Core.Path.{_≡_, refl, sym, ap, _∙_}
+use mathlib.Core.Path.{_≡_, refl, sym, ap, _∙_, subst}
 use mathlib.Core.Logic.{inl, inr, ⊎-elim}
 use mathlib.Core.List.{List}
 use Prim.Native.Nat.{ℕ, suc, _+_, _-_, _≤_}
 use native.Mathlib.Omega.{arith}
 use borrow.Author.Tests.{not-true, not-false}
-use Rattle.rows.specs.Rows.{locationsMax, rowWords}
+use lib.Dec.{T}
+use Rattle.lists.proofs.Tests.{true-T}
+use Rattle.rows.specs.Rows.{marked, locationsMax, rowWords}
+use Rattle.rows.specs.declared.Range.{Range}
+use Rattle.rows.specs.Ranges.{without}
+use Rattle.rows.proofs.Ranges.{without-both, in-range-any}
+use Rattle.graph.specs.Held.{heldIn}
 use Rattle.graph.specs.declared.Node.{Node}
 use Rattle.picture.specs.Layout.{edition1, endpointsMax}
 use Rattle.network.proofs.Making.{clear-made}
@@ -13,23 +19,23 @@ use Rattle.evidence.specs.Contents.{forestIn}
 use Rattle.checker.proofs.Nodes.{node-read}
 use Rattle.checker.proofs.Following.{Followed, followed-begun, followed-in, followed-out, Closed, closed-begun, closed-none, closed-out, closed-apart}
 use Rattle.checker.proofs.Going.{Given, given, Gone, Counted, PartAt, Inside, Sides, sides-whole, sides-less, tables-made, cuts-none, cuts-fewer, gone-begun, gone-ended}
-use Rattle.checker.proofs.Going.{part-begun, part-node, part-link, part-counted, part-stated, part-gone}
+use Rattle.checker.proofs.Going.{part-begun, part-node, part-evicted, part-link, part-counted, part-stated, part-gone}
 use borrow.Author.Needs.{needs}
 use Rattle.checker.proofs.forests.parts_fault.Statement.{statement}
 use Rattle.checker.proofs.forests.parts_fault.Tie as tie
 
 -- the slots below v are followed, without a fault
-record Slots (x : Given) (row : List ℕ) (k q : ℕ) (left : List ℕ) (fault : ℕ) (slots : List ℕ) (v : ℕ) : Type 0 where
+record Slots (x : Given) (row : List ℕ) (k q : ℕ) (evicted : Range) (fault : ℕ) (slots : List ℕ) (v : ℕ) : Type 0 where
   pub some : 1 ≤ v
   pub none : fault ≡ 0
-  pub part : PartAt x row k q left
-  pub followed : Followed (x .links) left (forestIn edition1 (x .n) (x .ev) q) slots v
+  pub part : PartAt x row k q evicted
+  pub followed : Followed (x .links) (heldIn (x .held)) (forestIn edition1 (x .n) (x .ev) q) slots v
 
 -- the links of the locations below a are looked at, without a fault
-record Links (x : Given) (row : List ℕ) (k : ℕ) (inner outer : List ℕ) (fault a : ℕ) : Type 0 where
+record Links (x : Given) (row : List ℕ) (k : ℕ) (evicted : Range) (inner outer : List ℕ) (fault a : ℕ) : Type 0 where
   pub none : fault ≡ 0
-  pub inside : Inside x row k inner outer
-  pub closed : Closed (x .links) inner outer a
+  pub inside : Inside x row k evicted inner outer
+  pub closed : Closed (x .links) inner (without evicted (marked outer)) a
 
 -- the parts before k are gone over, without a fault
 record Parts (x : Given) (cuts row : List ℕ) (fault k : ℕ) : Type 0 where
@@ -38,25 +44,25 @@ record Parts (x : Given) (cuts row : List ℕ) (fault k : ℕ) : Type 0 where
   pub counted : Counted x cuts k
 
 abbrev Inv-loop : tie.InvT-loop
-Inv-loop s ev held count cuts n size d links services weights protected none now fault₀ k q left slots₀ v₀ fault slots v =
-    Slots (given s ev held count n size d links services weights protected) now k q left fault slots v
+Inv-loop s ev count cuts held n size d links services weights protected none now fault₀ k q evicted slots₀ v₀ fault slots v =
+    Slots (given s ev held count n size d links services weights protected) now k q evicted fault slots v
 
 abbrev μ-loop : tie.MeasureT-loop
-μ-loop s ev held count cuts n size d links services weights protected none now fault₀ k q left slots₀ v₀ fault slots v = n + 1 - v
+μ-loop s ev count cuts held n size d links services weights protected none now fault₀ k q evicted slots₀ v₀ fault slots v = n + 1 - v
 
 abbrev Inv-loop2 : tie.InvT-loop2
-Inv-loop2 s ev held count cuts n size d links services weights protected none now fault₀ k q v inside outside a₀ fault a =
-    Links (given s ev held count n size d links services weights protected) now k inside outside fault a
+Inv-loop2 s ev count cuts held n size d links services weights protected none now fault₀ k q evicted v inside outer a₀ fault a =
+    Links (given s ev held count n size d links services weights protected) now k evicted inside outer fault a
 
 abbrev μ-loop2 : tie.MeasureT-loop2
-μ-loop2 s ev held count cuts n size d links services weights protected none now fault₀ k q v inside outside a₀ fault a = n + 1 - a
+μ-loop2 s ev count cuts held n size d links services weights protected none now fault₀ k q evicted v inside outer a₀ fault a = n + 1 - a
 
 abbrev Inv-check : tie.InvT-check
-Inv-check s ev held count cuts₀ n size d links services weights protected none now₀ fault₀ k₀ cuts now fault k =
+Inv-check s ev count cuts₀ held n size d links services weights protected none now₀ fault₀ k₀ cuts now fault k =
     Parts (given s ev held count n size d links services weights protected) cuts now fault k
 
 abbrev μ-check : tie.MeasureT-check
-μ-check s ev held count cuts₀ n size d links services weights protected none now₀ fault₀ k₀ cuts now fault k = count + 1 - k
+μ-check s ev count cuts₀ held n size d links services weights protected none now₀ fault₀ k₀ cuts now fault k = count + 1 - k
 
 -- the places of the code: a node is read, a turn of the links, the part's locations are gathered, the part begins, its two sides are set
 abbrev start : tie.After-links Inv-loop μ-loop Inv-loop2 μ-loop2 Inv-check μ-check → tie.Start Inv-loop μ-loop Inv-loop2 μ-loop2 Inv-check μ-check
@@ -68,13 +74,13 @@ read c = c .before .before .before
 abbrev turn : tie.After-has Inv-loop μ-loop Inv-loop2 μ-loop2 Inv-check μ-check → tie.At-loop2 Inv-loop μ-loop Inv-loop2 μ-loop2 Inv-check μ-check
 turn c = c .before .before .before
 
-abbrev gathered : tie.Joined6 Inv-loop μ-loop Inv-loop2 μ-loop2 Inv-check μ-check → tie.After-add2 Inv-loop μ-loop Inv-loop2 μ-loop2 Inv-check μ-check
-gathered c = c .before .before .before .before .before .before
+abbrev gathered : tie.Joined7 Inv-loop μ-loop Inv-loop2 μ-loop2 Inv-check μ-check → tie.After-add2 Inv-loop μ-loop Inv-loop2 μ-loop2 Inv-check μ-check
+gathered c = c .before .before .before .before .before .before .before .before
 
-abbrev begun : tie.Joined6 Inv-loop μ-loop Inv-loop2 μ-loop2 Inv-check μ-check → tie.At-check Inv-loop μ-loop Inv-loop2 μ-loop2 Inv-check μ-check
-begun c = gathered c .before .before .before .before .before .before .before
+abbrev begun : tie.Joined7 Inv-loop μ-loop Inv-loop2 μ-loop2 Inv-check μ-check → tie.At-check Inv-loop μ-loop Inv-loop2 μ-loop2 Inv-check μ-check
+begun c = gathered c .before .before .before .before .before .before .before .before .before .before
 
-abbrev sided : tie.After-lost-between Inv-loop μ-loop Inv-loop2 μ-loop2 Inv-check μ-check → tie.Joined6 Inv-loop μ-loop Inv-loop2 μ-loop2 Inv-check μ-check
+abbrev sided : tie.After-lost-between Inv-loop μ-loop Inv-loop2 μ-loop2 Inv-check μ-check → tie.Joined7 Inv-loop μ-loop Inv-loop2 μ-loop2 Inv-check μ-check
 sided c = c .before .before .before
 
 link-rows-requires : tie.Need-link-rows-requires Inv-loop μ-loop Inv-loop2 μ-loop2 Inv-check μ-check
@@ -98,15 +104,15 @@ check-holds c =
 forest-at-requires : tie.Need-forest-at-requires Inv-loop μ-loop Inv-loop2 μ-loop2 Inv-check μ-check
 forest-at-requires c κs = search needs
 
-held-in-requires : tie.Need-held-in-requires Inv-loop μ-loop Inv-loop2 μ-loop2 Inv-check μ-check
-held-in-requires c κs =
+evicted-in-requires : tie.Need-evicted-in-requires Inv-loop μ-loop Inv-loop2 μ-loop2 Inv-check μ-check
+evicted-in-requires c κs =
     let t = c .before .before .check .inv .gone .tables in
     (t .few-slots, omega (arith, t .few-parts, c .before .check-test .taken), λ l. t .room _ l (c .before .check-test .taken))
 
 loop-holds : tie.Need-loop-holds Inv-loop μ-loop Inv-loop2 μ-loop2 Inv-check μ-check
 loop-holds c =
     let i = c .before .before .before .check .inv in
-    let part = part-begun (i .gone) (c .before .before .check-test .taken) (c .before .forest-at .ensures) (c .held-in .ensures) in
+    let part = part-begun (i .gone) (c .before .before .check-test .taken) (c .before .forest-at .ensures) (c .evicted-in .ensures) in
     record { some = omega arith; none = i .none; part = part; followed = followed-begun rowWords }
 
 node-at-requires : tie.Need-node-at-requires Inv-loop μ-loop Inv-loop2 μ-loop2 Inv-check μ-check
@@ -142,29 +148,32 @@ loop-again c =
           (λ w. rw (w .1) (followed-out (l .inv .some) (l .inv .followed) r (e ∙ w .0 .left))) (c .if2 .came);
     }
 
+marks-any-requires : tie.Need-marks-any-requires Inv-loop μ-loop Inv-loop2 μ-loop2 Inv-check μ-check
+marks-any-requires c κs = c .before .before .loop .inv .part .low
+
 add-requires-2 : tie.Need-add-requires-2 Inv-loop μ-loop Inv-loop2 μ-loop2 Inv-check μ-check
 add-requires-2 c κs = search needs
 
 minus-requires : tie.Need-minus-requires Inv-loop μ-loop Inv-loop2 μ-loop2 Inv-check μ-check
 minus-requires c κs = search needs
 
-none-marked-requires : tie.Need-none-marked-requires Inv-loop μ-loop Inv-loop2 μ-loop2 Inv-check μ-check
-none-marked-requires c κs = search needs
-
 add-a : tie.Need-add-a Inv-loop μ-loop Inv-loop2 μ-loop2 Inv-check μ-check
 add-a c = search needs
 
+meet-unevicted-requires : tie.Need-meet-unevicted-requires Inv-loop μ-loop Inv-loop2 μ-loop2 Inv-check μ-check
+meet-unevicted-requires c κs = search needs
+
 loop2-holds : tie.Need-loop2-holds Inv-loop μ-loop Inv-loop2 μ-loop2 Inv-check μ-check
 loop2-holds c =
-    let m = c .before .before in
-    let e = m .before .before .before in
+    let m = c .before .before .before .before in
+    let t = m .before .before .before in
+    let e = t .before .before .before in
     let i = e .before .loop .inv in
     record {
       none = i .none;
       inside =
           record {
             q = _;
-            left = _;
             slots = _;
             part = i .part;
             with = m .before .add2 .ensures;
@@ -172,21 +181,26 @@ loop2-holds c =
             v = e .before .loop .v;
             followed = i .followed;
             ended = e .loop-test .left;
+            apart = λ u r s. subst T (sym (t .before .marks-any .ensures) ∙ t .if3 .left) (in-range-any _ _ u r s);
           };
-      closed = ⊎-elim (λ w. closed-none (rw (w .0 .taken) at (c .before .none-marked .ensures))) (λ w. rw (w .1) closed-begun) (c .if3 .came);
+      closed =
+          ⊎-elim
+          (λ w. rw (w .1) closed-begun)
+          (λ w. let none = rw (w .0 .left) at (c .before .meet-unevicted .ensures) in closed-none (λ b t. none .apart tt b (without-both _ _ b t .0) t))
+          (c .if4 .came);
     }
 
 has-requires : tie.Need-has-requires Inv-loop μ-loop Inv-loop2 μ-loop2 Inv-check μ-check
 has-requires c κs = search needs
 
-mul-row : tie.Need-mul-row Inv-loop μ-loop Inv-loop2 μ-loop2 Inv-check μ-check
-mul-row c = search needs
+mul-leads-out : tie.Need-mul-leads-out Inv-loop μ-loop Inv-loop2 μ-loop2 Inv-check μ-check
+mul-leads-out c = search needs
 
-array-copy-out-row : tie.Need-array-copy-out-row Inv-loop μ-loop Inv-loop2 μ-loop2 Inv-check μ-check
-array-copy-out-row c = search needs
+index-1-leads-out : tie.Need-index-1-leads-out Inv-loop μ-loop Inv-loop2 μ-loop2 Inv-check μ-check
+index-1-leads-out c = search needs
 
-meet-requires : tie.Need-meet-requires Inv-loop μ-loop Inv-loop2 μ-loop2 Inv-check μ-check
-meet-requires c κs = search needs
+leads-out-requires : tie.Need-leads-out-requires Inv-loop μ-loop Inv-loop2 μ-loop2 Inv-check μ-check
+leads-out-requires c κs = search needs
 
 add-a-2 : tie.Need-add-a-2 Inv-loop μ-loop Inv-loop2 μ-loop2 Inv-check μ-check
 add-a-2 c = search needs
@@ -201,14 +215,14 @@ loop2-again c =
     record {
       none = i .none;
       inside = i .inside;
-      closed = ⊎-elim (λ w. closed-apart (i .closed) (rw (w .4 .left) at (w .3 .ensures)))
-          (λ w. closed-out (i .closed) (sym (h .has .ensures) ∙ w .left)) (c .before .if4 .came);
+      closed = ⊎-elim (λ w. closed-apart (i .closed) (rw (w .5 .left) at (w .4 .ensures)))
+          (λ w. closed-out (i .closed) (sym (h .has .ensures) ∙ w .left)) (c .before .if5 .came);
     }
 
 -- part 0 is weighed against nothing, and each section against the first forest
-sides : (c : tie.Joined6 Inv-loop μ-loop Inv-loop2 μ-loop2 Inv-check μ-check) → let g = gathered c in
-    let k = begun c .check in Sides (k .now) (g .add2 .last .0) (k .k) (c .if6 .now) (c .if6 .still)
-sides c = ⊎-elim (λ w. sides-whole _ (w .0 .taken) (w .1) (w .2)) (λ w. sides-less _ (w .0 .left) (w .1) (w .2)) (c .if6 .came)
+sides : (c : tie.Joined7 Inv-loop μ-loop Inv-loop2 μ-loop2 Inv-check μ-check) → let g = gathered c in
+    let k = begun c .check in Sides (k .now) (g .add2 .last .0) (k .k) (c .if7 .now) (c .if7 .still)
+sides c = ⊎-elim (λ w. sides-whole _ (w .0 .taken) (w .1) (w .2)) (λ w. sides-less _ (w .0 .left) (w .1) (w .2)) (c .if7 .came)
 
 lost-between-requires : tie.Need-lost-between-requires Inv-loop μ-loop Inv-loop2 μ-loop2 Inv-check μ-check
 lost-between-requires c κs = search needs
@@ -217,7 +231,7 @@ stated-right-requires : tie.Need-stated-right-requires Inv-loop μ-loop Inv-loop
 stated-right-requires c κs = search needs
 
 sub-cuts : tie.Need-sub-cuts Inv-loop μ-loop Inv-loop2 μ-loop2 Inv-check μ-check
-sub-cuts c = let z = c .if8 .taken in omega arith
+sub-cuts c = let z = c .if9 .taken in omega arith
 
 element-write-cuts : tie.Need-element-write-cuts Inv-loop μ-loop Inv-loop2 μ-loop2 Inv-check μ-check
 element-write-cuts c = search needs
@@ -236,9 +250,9 @@ check-again c =
     let lost = r .before .before .lost-between .ensures in
     record {
       none = i .none;
-      gone = part-gone (i .inside) (i .closed) (s .before .loop2-test .left) (sides s) lost (sym (r .before .stated-right .ensures) ∙ not-false _ (r .if7 .left));
+      gone = part-gone (i .inside) (i .closed) (s .before .loop2-test .left) (sides s) lost (sym (r .before .stated-right .ensures) ∙ not-false _ (r .if8 .left));
       counted = part-counted (i .inside) (i .closed) (s .before .loop2-test .left) (sides s) lost (begun s .check .inv .counted)
-          (⊎-elim (λ w. inr (w .0 .taken, w .1)) (λ w. inl (w .0 .left, w .1)) (c .if8 .came));
+          (⊎-elim (λ w. inr (w .0 .taken, w .1)) (λ w. inl (w .0 .left, w .1)) (c .if9 .came));
     }
 
 returns : tie.Need-returns Inv-loop μ-loop Inv-loop2 μ-loop2 Inv-check μ-check
@@ -254,15 +268,21 @@ returns-2 c =
 
 returns-3 : tie.Need-returns-3 Inv-loop μ-loop Inv-loop2 μ-loop2 Inv-check μ-check
 returns-3 c =
-    let k = c .before .before .before .before in
-    let l = turn (k .before) .loop2 in
-    (part-link (l .inv .inside) (l .a) (rw (sym (k .before .has .ensures) ∙ k .if4 .taken) tt) (rw (c .if5 .taken) at (c .before .meet .ensures)), λ z. absurd (omega arith))
+    let e = c .before .before .before in
+    let i = e .before .loop .inv in
+    (part-evicted (i .part) (i .followed) (e .loop-test .left) (true-T (sym (c .before .marks-any .ensures) ∙ c .if3 .taken)), λ z. absurd (omega arith))
 
 returns-4 : tie.Need-returns-4 Inv-loop μ-loop Inv-loop2 μ-loop2 Inv-check μ-check
 returns-4 c =
+    let k = c .before .before .before .before .before in
+    let l = turn (k .before) .loop2 in
+    (part-link (l .inv .inside) (l .a) (rw (sym (k .before .has .ensures) ∙ k .if5 .taken) tt) (rw (c .if6 .taken) at (c .before .leads-out .ensures)), λ z. absurd (omega arith))
+
+returns-5 : tie.Need-returns-5 Inv-loop μ-loop Inv-loop2 μ-loop2 Inv-check μ-check
+returns-5 c =
     let s = sided (c .before .before) in
     let i = s .before .before .loop2 .inv in
-    let wrong = sym (c .before .stated-right .ensures) ∙ not-true _ (c .if7 .taken) in
+    let wrong = sym (c .before .stated-right .ensures) ∙ not-true _ (c .if8 .taken) in
     (part-stated (i .inside) (i .closed) (s .before .loop2-test .left) (sides s) (c .before .before .lost-between .ensures) wrong, λ z. absurd (omega arith))
 
 pub parts-fault-spec : {M : Type 1} → statement M
@@ -280,7 +300,7 @@ parts-fault-spec =
     endpoint-rows-requires
     check-holds
     forest-at-requires
-    held-in-requires
+    evicted-in-requires
     loop-holds
     node-at-requires
     node-right-requires
@@ -288,15 +308,16 @@ parts-fault-spec =
     add-v
     loop-less
     loop-again
+    marks-any-requires
     add-requires-2
     minus-requires
-    none-marked-requires
     add-a
+    meet-unevicted-requires
     loop2-holds
     has-requires
-    mul-row
-    array-copy-out-row
-    meet-requires
+    mul-leads-out
+    index-1-leads-out
+    leads-out-requires
     add-a-2
     loop2-less
     loop2-again
@@ -310,4 +331,5 @@ parts-fault-spec =
     returns
     returns-2
     returns-3
-    returns-4)
+    returns-4
+    returns-5)
