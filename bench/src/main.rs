@@ -1,7 +1,7 @@
 //! Times of the archive and of the peer in one run, their growth, and the archive's peak stack.
 //!
 //! `bench [REPETITIONS]`: of how many measurements each time is the median.
-//! `bench stack`: the peak stack alone; ends with status 1 where it is over the limit.
+//! `bench stack`: the peak stack alone; ends with status 1 where it is over the header's limit.
 
 mod stack;
 
@@ -21,24 +21,34 @@ const DEFAULT_REPETITIONS: usize = 15;
 /// One measurement repeats its call until this is over, so that the clock's grain does not count.
 const LEAST_TIME: Duration = Duration::from_millis(2);
 const SEED: u64 = 7;
-/// What the header for C promises, `BLOCKPLAN_STACK`.
-const STACK_LIMIT: usize = 65_536;
+/// The header for C, which promises a limit of stack.
+const HEADER: &str = include_str!("../../include/blockplan.h");
 
-/// A picture to measure on, with its evidence and its lists.
+/// A picture to measure on, with its evidence and its lists, and the acts.
 struct Case {
     picture: Vec<u8>,
     evidence: Vec<u8>,
     lists: Lists,
+    acts: [Act; 3],
+}
+
+/// An act on a block of a picture on which it is done.
+struct Act {
+    archive: fn(&mut [u8], u32) -> i32,
+    peer: fn(&mut [u8], u32) -> Result<(), u8>,
+    picture: Vec<u8>,
+    block: u32,
 }
 
 impl Case {
     fn of(picture: &Picture) -> Case {
         let lists = lists_of(picture);
+        let acts = acts_on(picture);
         let picture = pack(picture);
         let mut evidence = vec![0; evidence_bytes(MAX_SLOTS, MAX_BLOCKS)];
         let length = peer::choose(&picture, &mut evidence).expect("the cases are accepted");
         evidence.truncate(length);
-        let case = Case { picture, evidence, lists };
+        let case = Case { picture, evidence, lists, acts };
         case.must_agree();
         case
     }
@@ -53,35 +63,96 @@ impl Case {
             && evidence == self.evidence
             && archive::check(&self.picture, &self.evidence) == 0
             && written == picture.len() as i32
-            && picture == self.picture;
+            && picture == self.picture
+            && self.acts.iter().all(Act::agrees);
         if !agrees {
             eprintln!("bench: archive and peer differ; run compare");
             exit(1);
         }
     }
 
-    fn times(&self, repetitions: usize) -> Times {
+    fn choose(&self, repetitions: usize) -> Medians {
         let mut buffers = [self.evidence.clone(), self.evidence.clone()];
         let [archive_buffer, peer_buffer] = &mut buffers;
-        let choose = medians(
+        medians(
             repetitions,
             || archive::choose(black_box(&self.picture), archive_buffer),
             || peer::choose(black_box(&self.picture), peer_buffer),
-        );
-        let check = medians(
+        )
+    }
+
+    fn check(&self, repetitions: usize) -> Medians {
+        medians(
             repetitions,
             || archive::check(black_box(&self.picture), black_box(&self.evidence)),
             || peer::check(black_box(&self.picture), black_box(&self.evidence)),
-        );
+        )
+    }
+
+    fn write(&self, repetitions: usize) -> Medians {
         let mut pictures = [self.picture.clone(), self.picture.clone()];
         let [archive_picture, peer_picture] = &mut pictures;
-        let write = medians(
+        medians(
             repetitions,
             || archive::write(black_box(&self.lists), archive_picture),
             || peer::write(black_box(&self.lists), peer_picture),
-        );
-        Times { choose, check, write }
+        )
     }
+}
+
+impl Act {
+    /// Each call on the picture as it was: copying it counts, for both.
+    fn times(&self, repetitions: usize) -> Medians {
+        let mut pictures = [self.picture.clone(), self.picture.clone()];
+        let [archive_picture, peer_picture] = &mut pictures;
+        medians(
+            repetitions,
+            || {
+                archive_picture.copy_from_slice(black_box(&self.picture));
+                (self.archive)(archive_picture, self.block)
+            },
+            || {
+                peer_picture.copy_from_slice(black_box(&self.picture));
+                (self.peer)(peer_picture, self.block)
+            },
+        )
+    }
+
+    /// Both do it, and leave the same picture.
+    fn agrees(&self) -> bool {
+        let [mut archive_picture, mut peer_picture] = [self.picture.clone(), self.picture.clone()];
+        (self.archive)(&mut archive_picture, self.block) == 0
+            && (self.peer)(&mut peer_picture, self.block) == Ok(())
+            && archive_picture == peer_picture
+    }
+
+    fn peak(&self) -> usize {
+        // The call runs twice, each time on the picture as it was.
+        let mut lent = self.picture.clone();
+        stack::peak(&mut || {
+            lent.copy_from_slice(&self.picture);
+            (self.archive)(&mut lent, self.block);
+        })
+    }
+}
+
+/// Evict, reload and free of the last block, which on a chain is the farthest.
+fn acts_on(picture: &Picture) -> [Act; 3] {
+    let mut open = picture.clone();
+    open.near_limit = 255;
+    open.endpoints.iter_mut().for_each(|endpoint| endpoint.protected = false);
+    hold_all(&mut open);
+    let last = open.block_count() - 1;
+    let mut evicted = open.clone();
+    for location in open.block_locations(last) {
+        evicted.slots[location - 1].state = State::Recoverable;
+    }
+    let block = last as u32;
+    [
+        Act { archive: archive::evict, peer: peer::evict, picture: pack(&open), block },
+        Act { archive: archive::reload, peer: peer::reload, picture: pack(&evicted), block },
+        Act { archive: archive::free, peer: peer::free, picture: pack(&open), block },
+    ]
 }
 
 /// Microseconds a call: of the archive and of the peer.
@@ -89,12 +160,6 @@ impl Case {
 struct Medians {
     archive: f64,
     peer: f64,
-}
-
-struct Times {
-    choose: Medians,
-    check: Medians,
-    write: Medians,
 }
 
 /// Both calls warmed up, then measured in turn, with the first of the two alternating.
@@ -167,8 +232,16 @@ fn print_times(repetitions: usize) {
     println!("time a call in microseconds, median of {repetitions}");
     println!("{:<36}{:<8}{:>12}{:>12}{:>14}", "case", "call", "archive", "peer", "archive/peer");
     for (name, picture) in cases() {
-        let times = Case::of(&picture).times(repetitions);
-        let rows = [("choose", times.choose), ("check", times.check), ("write", times.write)];
+        let case = Case::of(&picture);
+        let [evict, reload, free] = &case.acts;
+        let rows = [
+            ("choose", case.choose(repetitions)),
+            ("check", case.check(repetitions)),
+            ("evict", evict.times(repetitions)),
+            ("reload", reload.times(repetitions)),
+            ("free", free.times(repetitions)),
+            ("write", case.write(repetitions)),
+        ];
         for (call, medians) in rows {
             let Medians { archive, peer } = medians;
             println!("{name:<36}{call:<8}{archive:>12.2}{peer:>12.2}{:>14.2}", archive / peer);
@@ -197,17 +270,17 @@ fn print_growth(repetitions: usize) {
         "what doubles", "n", "b", "L", "S", "choose us", "growth", "check us", "growth"
     );
     for (name, sizes) in series() {
-        let mut last: Option<Times> = None;
+        let mut last = None;
         for (slots, block_size, links, serving) in sizes {
             let case = Case::of(&dense(slots, block_size, 100, links, serving));
-            let times = case.times(repetitions);
-            let choose_growth = growth(last.as_ref().map(|last| last.choose), times.choose);
-            let check_growth = growth(last.as_ref().map(|last| last.check), times.check);
+            let (choose, check) = (case.choose(repetitions), case.check(repetitions));
+            let choose_growth = growth(last.map(|(choose, _)| choose), choose);
+            let check_growth = growth(last.map(|(_, check)| check), check);
             println!(
                 "{name:<20}{slots:>6}{block_size:>6}{links:>6}{serving:>6}{:>14.2}{choose_growth:>10}{:>14.2}{check_growth:>10}",
-                times.choose.archive, times.check.archive
+                choose.archive, check.archive
             );
-            last = Some(times);
+            last = Some((choose, check));
         }
     }
 }
@@ -219,32 +292,11 @@ fn growth(before: Option<Medians>, now: Medians) -> String {
     }
 }
 
-/// Pictures on which evict and free (the first) and reload (the second) of block 0 are done.
-fn pictures_for_acts(picture: &Picture) -> (Vec<u8>, Vec<u8>) {
-    let mut open = picture.clone();
-    open.near_limit = 255;
-    open.endpoints.iter_mut().for_each(|endpoint| endpoint.protected = false);
-    hold_all(&mut open);
-    let mut evicted = open.clone();
-    for location in open.block_locations(0) {
-        evicted.slots[location - 1].state = State::Recoverable;
-    }
-    (pack(&open), pack(&evicted))
-}
-
 fn peaks(picture: &Picture) -> [usize; 6] {
     let case = Case::of(picture);
-    let (open, evicted) = pictures_for_acts(picture);
+    let [evict, reload, free] = &case.acts;
     let mut evidence = vec![0; case.evidence.len()];
     let mut written = vec![0; case.picture.len()];
-    let act = |act: fn(&mut [u8], u32) -> i32, picture: &[u8]| {
-        // The call runs twice, each time on the picture as it was.
-        let mut lent = picture.to_vec();
-        stack::peak(&mut || {
-            lent.copy_from_slice(picture);
-            assert_eq!(act(&mut lent, 0), 0, "an act that is done");
-        })
-    };
     [
         stack::peak(&mut || {
             archive::choose(&case.picture, &mut evidence);
@@ -252,9 +304,9 @@ fn peaks(picture: &Picture) -> [usize; 6] {
         stack::peak(&mut || {
             archive::check(&case.picture, &case.evidence);
         }),
-        act(archive::evict, &open),
-        act(archive::reload, &evicted),
-        act(archive::free, &open),
+        evict.peak(),
+        reload.peak(),
+        free.peak(),
         stack::peak(&mut || {
             archive::write(&case.lists, &mut written);
         }),
@@ -278,11 +330,16 @@ fn print_stack() -> usize {
     most
 }
 
+fn stack_limit() -> usize {
+    let line = HEADER.lines().find_map(|line| line.strip_prefix("#define BLOCKPLAN_STACK "));
+    line.and_then(|number| number.trim().parse().ok()).expect("the header defines BLOCKPLAN_STACK")
+}
+
 fn main() {
     let arguments: Vec<String> = env::args().skip(1).collect();
     let repetitions = match arguments.as_slice() {
         [] => DEFAULT_REPETITIONS,
-        [word] if word == "stack" => exit(i32::from(print_stack() > STACK_LIMIT)),
+        [word] if word == "stack" => exit(i32::from(print_stack() > stack_limit())),
         [text] => text.parse().ok().filter(|repetitions| *repetitions > 0).unwrap_or_else(|| usage()),
         _ => usage(),
     };
