@@ -1,13 +1,16 @@
 //! Evidence with other forests: valid ones from another maker, and ones that only look valid.
 
+use peer::choice::SECTION_HEAD_BYTES;
 use peer::foreign::{self, GROWTHS};
-use peer::networks::{network, Size, SHAPES};
+use peer::networks::{dense_held, network, Size, SHAPES};
 use peer::pack;
-use peer::picture::Picture;
+use peer::picture::{Picture, MAX_BLOCKS, MAX_BLOCK_SIZE, MAX_SLOTS};
 use peer::random::Random;
+use peer::refusals::FOREST;
 
 use super::evidence::{forest_start, random_fields};
 use super::harness::Comparison;
+use super::{canonical, every_call};
 
 /// Foreign evidence as it is, which must pass, and then with forests or fields spoilt.
 pub fn foreign(comparison: &mut Comparison, random: &mut Random, count: usize) {
@@ -36,6 +39,53 @@ fn spoilt(comparison: &mut Comparison, random: &mut Random, picture: &Picture, e
         comparison.check(&bytes, &changed);
     }
     random_fields(comparison, random, picture, evidence, 2);
+}
+
+/// Dense networks of every block size with as many slots as it allows, and each section with one slot
+/// at or beside an end of its block spoilt.
+pub fn block_ends(comparison: &mut Comparison, random: &mut Random, count: usize) {
+    for _ in 0..count.div_ceil(1000) {
+        for block_size in 1..=MAX_BLOCK_SIZE {
+            let slots = block_size * MAX_BLOCKS.min(MAX_SLOTS / block_size);
+            let size = Size { block_size, slots, endpoints: 30, links: 4 * slots, serving: 60 };
+            let picture = dense_held(random, size);
+            let bytes = pack(&picture);
+            every_call(comparison, random, &bytes);
+            let evidence = canonical(&bytes).expect("networks are accepted");
+            for section in 1..=usize::from(evidence[2]) {
+                spoilt_ends(comparison, &picture, &bytes, &evidence, section);
+            }
+        }
+    }
+}
+
+/// An evicted slot is admitted, with its entry of the first forest, and a reached one is dropped.
+fn spoilt_ends(
+    comparison: &mut Comparison,
+    picture: &Picture,
+    bytes: &[u8],
+    evidence: &[u8],
+    section: usize,
+) {
+    let slots = picture.slots.len();
+    let [first, start] = [0, section].map(|section| forest_start(slots, section));
+    let block = picture.block_locations(usize::from(evidence[start - SECTION_HEAD_BYTES]));
+    for slot in [block.start - 1, block.start, block.end - 1, block.end] {
+        if slot == 0 || slot > slots || depth_of(evidence, first, slot) == 0 {
+            continue;
+        }
+        let mut changed = evidence.to_vec();
+        let (here, there) = (entry(start, slot), entry(first, slot));
+        if block.contains(&slot) {
+            changed.copy_within(there..there + 2, here);
+        } else if depth_of(evidence, start, slot) > 0 {
+            changed[here..here + 2].fill(0);
+        } else {
+            continue;
+        }
+        let answer = comparison.check(bytes, &changed);
+        comparison.expect("check of a block's end spoilt", answer, -i32::from(FOREST));
+    }
 }
 
 /// The place of a slot's entry in the forest that starts at `start`.

@@ -21,7 +21,7 @@ const ROOM: usize = evidence_bytes(MAX_SLOTS, MAX_BLOCKS) + 11;
 
 type Group = fn(&mut Comparison, &mut Random, usize);
 
-pub const ALL: [(&str, Group); 31] = [
+pub const ALL: [(&str, Group); 32] = [
     ("truncations of the samples", pictures::truncations),
     ("bit flips of the samples", pictures::bit_flips),
     ("wrong ends of links", pictures::wrong_ends),
@@ -45,6 +45,7 @@ pub const ALL: [(&str, Group); 31] = [
     ("evidence, fields", evidence::fields),
     ("evidence, lengths and pictures", evidence::strangers),
     ("evidence, foreign", forests::foreign),
+    ("evidence, ends of blocks", forests::block_ends),
     ("near limits", acts::near_limits),
     ("sequences of acts", acts::sequences),
     ("lists: networks", lists::networks),
