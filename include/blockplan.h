@@ -49,7 +49,7 @@ extern "C" {
  *
  * n is a multiple of the block size. A buffer of BLOCKPLAN_PICTURE_MAX bytes is long enough for every picture. The limits:
  */
-#define BLOCKPLAN_BLOCK_SIZE_MAX 8
+#define BLOCKPLAN_BLOCK_SIZE_MAX 15
 #define BLOCKPLAN_SLOTS_MAX 240
 #define BLOCKPLAN_BLOCKS_MAX 60
 #define BLOCKPLAN_ENDPOINTS_MAX 200

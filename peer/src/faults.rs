@@ -2,7 +2,7 @@
 //! so that their order shows. And pictures with every two numbers in their links wrong.
 
 use crate::lists::Lists;
-use crate::picture::Picture;
+use crate::picture::{Picture, MAX_BLOCK_SIZE};
 use crate::random::Random;
 use crate::refusals;
 
@@ -16,7 +16,7 @@ pub const FAULTS: [Fault; 7] =
 fn block_size(random: &mut Random, lists: &mut Lists) {
     let size = lists.block_size;
     let beyond = *random.pick(&[1 << 4, 1 << 8, 1 << 16, 1 << 31]) | size;
-    lists.block_size = *random.pick(&[0, 9, 15, beyond, u32::MAX]);
+    lists.block_size = *random.pick(&[0, MAX_BLOCK_SIZE as u32 + 1, beyond, u32::MAX]);
 }
 
 fn slot_columns(random: &mut Random, lists: &mut Lists) {

@@ -29,6 +29,11 @@ impl Size {
     /// Any size up to the limits.
     pub fn any(random: &mut Random) -> Size {
         let block_size = random.between(1, MAX_BLOCK_SIZE);
+        Size::of_blocks(random, block_size)
+    }
+
+    /// Blocks of this size, and the rest any up to the limits.
+    pub fn of_blocks(random: &mut Random, block_size: usize) -> Size {
         let blocks = random.between(1, MAX_BLOCKS.min(MAX_SLOTS / block_size));
         let slots = block_size * blocks;
         Size {
@@ -43,7 +48,7 @@ impl Size {
     /// Slots, endpoints, links and serving links at their limits, and blocks too where a block has 4
     /// slots.
     pub fn full(random: &mut Random) -> Size {
-        let block_size = *random.pick(&[4, 4, 4, 5, 6, 8]);
+        let block_size = *random.pick(&[4, 4, 4, 5, 6, 8, 12, 15]);
         Size {
             block_size,
             slots: block_size * (MAX_SLOTS / block_size),

@@ -7,7 +7,7 @@ use crate::refusals;
 
 pub const EDITION: u8 = 1;
 pub const HEADER_BYTES: usize = 7;
-pub const MAX_BLOCK_SIZE: usize = 8;
+pub const MAX_BLOCK_SIZE: usize = 15;
 pub const MAX_SLOTS: usize = 240;
 pub const MAX_BLOCKS: usize = 60;
 pub const MAX_ENDPOINTS: usize = 200;

@@ -1,5 +1,5 @@
-//! The field examples of document 01, A to K and M, a tie, a larger network and the longest picture;
-//! and some that are refused.
+//! The field examples of document 01, A to K and M, a tie, wide blocks, a larger network and the
+//! longest picture; and some that are refused.
 
 use crate::networks::{dense_held, Size};
 use crate::picture::{pack, Endpoint, Picture, Slot, State};
@@ -97,6 +97,19 @@ pub fn tie() -> Picture {
     picture
 }
 
+/// Two blocks of fifteen slots. The first and the last slot of each block serve one endpoint: two
+/// feeders, and both go with the block.
+pub fn wide() -> Picture {
+    Picture {
+        block_size: 15,
+        near_limit: 30,
+        slots: vec![Slot { state: State::Held, near: true }; 30],
+        endpoints: case_a().endpoints,
+        links: vec![(0, 1), (0, 15), (0, 16), (16, 30)],
+        serving: vec![(1, 1), (15, 1), (16, 2), (30, 2)],
+    }
+}
+
 /// A larger network: 12 blocks of 4 slots and 18 endpoints. Slots 1 to 24 are three lines of eight
 /// from the origin, which a ring joins in their middles. Slots 25 to 48 hang on one slot of the
 /// lines each, every fourth one on a second; one of them serves each endpoint, and a second one every
@@ -140,20 +153,21 @@ pub fn longest() -> Picture {
     dense_held(&mut Random::new(1), size)
 }
 
-/// The samples that are small enough to try every bit of: the examples, the tie and the larger
-/// network.
+/// The samples that are small enough to try every bit of: the examples, the tie, the wide blocks and
+/// the larger network.
 pub fn small() -> Vec<Picture> {
-    all().into_iter().map(|(_, picture)| picture).chain([tie(), larger()]).collect()
+    all().into_iter().map(|(_, picture)| picture).chain([tie(), wide(), larger()]).collect()
 }
 
-/// The pictures of `examples/` by their file names: the examples, the tie, the larger network, the
-/// longest picture, and what is refused: A with a serving link that names what is not there, and with
-/// a byte too many.
+/// The pictures of `examples/` by their file names: the examples, the tie, the wide blocks, the larger
+/// network, the longest picture, and what is refused: A with a serving link that names what is not
+/// there, and with a byte too many.
 pub fn files() -> Vec<(String, Vec<u8>)> {
     let examples =
         all().into_iter().map(|(letter, picture)| (letter.to_lowercase().to_string(), pack(&picture)));
     let others = [
         ("tie".to_string(), pack(&tie())),
+        ("wide".to_string(), pack(&wide())),
         ("larger".to_string(), pack(&larger())),
         ("longest".to_string(), pack(&longest())),
         ("no-location".to_string(), pack(&variant(|p| p.serving[0].0 = 5))),

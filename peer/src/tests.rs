@@ -5,7 +5,7 @@ use crate::picture::State;
 use crate::picture::{
     MAX_BLOCKS, MAX_BLOCK_SIZE, MAX_ENDPOINTS, MAX_LINKS, MAX_PICTURE_BYTES, MAX_SLOTS,
 };
-use crate::samples::{all, case, case_a, files, longest, A_BYTES, A_EVIDENCE};
+use crate::samples::{all, case, case_a, files, longest, wide, A_BYTES, A_EVIDENCE};
 use crate::{check, choose, evict, free, listing, pack, read, refusals, reload, show, weigh, Picture};
 use crate::{lists_of, write, Lists};
 
@@ -158,6 +158,23 @@ fn every_example_has_its_choice() {
 }
 
 #[test]
+fn both_feeders_of_an_endpoint_go_with_a_block_of_fifteen() {
+    let bytes = pack(&wide());
+    assert_eq!(read(&bytes), Ok(wide()));
+    assert_eq!(weigh(&bytes, 0), Ok((42, 30, 1)));
+    assert_eq!(weigh(&bytes, 1), Ok((42, 12, 0)));
+    assert_eq!(weigh(&bytes, 2), Err(refusals::NO_BLOCK));
+    assert_eq!(choice_of(&bytes), (42, Some((1, 12))));
+    assert_eq!(check(&bytes, &evidence_of(&bytes)), Ok(()));
+    let mut after = bytes;
+    assert_eq!(evict(&mut after, 0), Err(refusals::PROTECTED));
+    assert_eq!(evict(&mut after, 1), Ok(()));
+    let mut evicted = wide();
+    evicted.slots[15..].iter_mut().for_each(|slot| slot.state = State::Recoverable);
+    assert_eq!(read(&after), Ok(evicted));
+}
+
+#[test]
 fn examples_keep_their_further_statements() {
     assert_eq!(evidence_of(&bytes_of('E')).len(), 17);
     assert_eq!(evidence_of(&bytes_of('H')), A_EVIDENCE);
@@ -237,7 +254,7 @@ fn numbers_13_to_16_by_example() {
 }
 
 #[test]
-fn limits_are_those_of_the_document() {
+fn limits_are_those_of_the_documents() {
     let header = |block_size: u8, slots: u8, endpoints: u8| {
         let bits = 3 * usize::from(slots) + 17 * usize::from(endpoints);
         let mut bytes = vec![0x10 | block_size, slots, 0, endpoints, 0, 0, 0];
@@ -247,7 +264,11 @@ fn limits_are_those_of_the_document() {
     assert_eq!(header(1, 60, 200), Ok(()));
     assert_eq!(header(8, 240, 0), Ok(()));
     assert_eq!(header(1, 61, 0), Err(refusals::BLOCKS));
-    assert_eq!(header(9, 9, 0), Err(refusals::BLOCKS));
+    assert_eq!(header(9, 9, 0), Ok(()));
+    assert_eq!(header(15, 240, 0), Ok(()));
+    assert_eq!(header(15, 16, 0), Err(refusals::BLOCKS));
+    assert_eq!(header(15, 255, 0), Err(refusals::BLOCKS));
+    assert_eq!(header(9, 9, 201), Err(refusals::COUNTS));
     assert_eq!(header(0, 4, 0), Err(refusals::BLOCKS));
     assert_eq!(header(1, 0, 0), Err(refusals::BLOCKS));
     assert_eq!(header(1, 60, 201), Err(refusals::COUNTS));
@@ -358,7 +379,7 @@ fn every_sample_is_written_as_it_was_read() {
 
 #[test]
 fn lists_are_refused_with_the_readers_numbers() {
-    let examples: [(u8, Change); 30] = [
+    let examples: [(u8, Change); 32] = [
         (refusals::BLOCKS, |lists| lists.near.truncate(3)),
         (refusals::BLOCKS, |lists| lists.near.push(true)),
         (refusals::BLOCKS, |lists| lists.states.truncate(2)),
@@ -369,7 +390,9 @@ fn lists_are_refused_with_the_readers_numbers() {
         (refusals::BLOCKS, |lists| lists.block_size = u32::MAX),
         (refusals::BLOCKS, |lists| set_slots(lists, 2, 0)),
         (refusals::BLOCKS, |lists| set_slots(lists, 1, 61)),
-        (refusals::BLOCKS, |lists| set_slots(lists, 9, 9)),
+        (refusals::BLOCKS, |lists| set_slots(lists, 15, 16)),
+        (refusals::BLOCKS, |lists| set_slots(lists, 16, 16)),
+        (refusals::BLOCKS, |lists| set_slots(lists, 15, 255)),
         (refusals::BLOCKS, |lists| set_slots(lists, 8, 248)),
         (refusals::BLOCKS, |lists| set_slots(lists, 2, 256 + 4)),
         (refusals::COUNTS, |lists| lists.protected.truncate(1)),
@@ -410,9 +433,11 @@ fn set_endpoints(lists: &mut Lists, endpoints: usize) {
 
 #[test]
 fn lists_at_the_limits_are_written() {
-    let examples: [Change; 6] = [
+    let examples: [Change; 8] = [
         |lists| set_slots(lists, 1, 60),
         |lists| set_slots(lists, 8, 240),
+        |lists| set_slots(lists, 9, 9),
+        |lists| set_slots(lists, 15, 240),
         |lists| set_endpoints(lists, 200),
         |lists| lists.links.resize(2000, [4, 0]),
         |lists| lists.serving.resize(2000, [0, 2]),
@@ -437,7 +462,7 @@ fn lists_are_judged_in_the_readers_order() {
         (refusals::STATE, |lists| lists.states[3] = 255),
         (refusals::COUNTS, |lists| lists.serving.resize(2001, [5, 3])),
         (refusals::COUNTS, |lists| lists.protected.clear()),
-        (refusals::BLOCKS, |lists| lists.block_size = 9),
+        (refusals::BLOCKS, |lists| lists.block_size = 16),
         (refusals::BLOCKS, |lists| lists.near.clear()),
     ];
     let mut lists = lists_a();

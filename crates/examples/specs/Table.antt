@@ -17,7 +17,7 @@ use Rattle.acts.specs.Answers.{acting, actBytes, actingNumbers}
 use Rattle.write.specs.Columns.{Lists, handed, listsOf}
 use Rattle.write.specs.Answers.{writing, writingNumbers, writtenBytes}
 use Rattle.listing.specs.Listing.{listing}
-use Rattle.examples.specs.Cases.{evidenceA, listsWith, listsA, caseA, caseB, caseC, caseD, caseE, caseF, caseG, caseH, caseI, caseJ, caseK, caseM, caseFewer, caseZero, caseEqual, linesA}
+use Rattle.examples.specs.Cases.{evidenceA, listsWith, listsA, caseA, caseB, caseC, caseD, caseE, caseF, caseG, caseH, caseI, caseJ, caseK, caseM, caseFewer, caseZero, caseEqual, caseWide, linesA}
 
 -- what is asked
 pub data Question : Type 0 where
@@ -62,6 +62,10 @@ slotsOnly first n bytes = first ∷ n ∷ 0 ∷ 0 ∷ 0 ∷ 0 ∷ 0 ∷ replicat
 unfoldable pub freedA : List ℕ
 freedA = set (set caseA 7 0x26) 8 0xD0
 
+-- the wide blocks with block 1, slots 16 to 30, evicted
+unfoldable pub evictedWide : List ℕ
+evictedWide = take 12 caseWide ++ (0x4B ∷ 0x6D ∷ 0xB6 ∷ 0xDB ∷ 0x6D ∷ 0xB6 ∷ 0xC0 ∷ drop 19 caseWide)
+
 unfoldable pub table : List Row
 table =
     -- 01, "Numbers by example"
@@ -73,16 +77,26 @@ table =
     ∷ record { question = read (set caseA 7 0xE4); says = 5 ∷ [] }
     ∷ record { question = read (set caseA 14 0x14); says = 6 ∷ [] }
     ∷ record { question = read (caseA ++ (0 ∷ [])); says = 7 ∷ [] }
-    -- 01, "The picture": accepted β 1 with n 60, β 8 with n 240; refused β 1 with n 61, β 9, n 0, D 201
+    -- 01, "The picture": accepted β 1 with n 60, β 8 with n 240; refused β 1 with n 61, n 0, D 201
     ∷ record { question = read (slotsOnly 0x11 60 23); says = 0 ∷ 1 ∷ 60 ∷ 0 ∷ 0 ∷ 0 ∷ 0 ∷ [] }
     ∷ record { question = read (slotsOnly 0x18 240 90); says = 0 ∷ 8 ∷ 240 ∷ 0 ∷ 0 ∷ 0 ∷ 0 ∷ [] }
     ∷ record { question = read (slotsOnly 0x11 61 23); says = 3 ∷ [] }
-    ∷ record { question = read (slotsOnly 0x19 9 4); says = 3 ∷ [] }
     ∷ record { question = read (slotsOnly 0x11 0 0); says = 3 ∷ [] }
     ∷ record { question = read (set (slotsOnly 0x11 60 500) 3 201); says = 4 ∷ [] }
     -- a picture that the header makes longer than it is, and a fill bit that is set
     ∷ record { question = read (slotsOnly 0x18 240 89); says = 1 ∷ [] }
     ∷ record { question = read (set caseA 26 0x09); says = 7 ∷ [] }
+    -- blocks of up to 15 slots (02, C-18): accepted β 9 with n 9, which 01 refuses, and β 15 with n 240, 16 blocks; refused β 15 with n 16 and
+    -- with n 255, and β 0; and by a later rule, where it was 3: β 9 with D 201, a byte too few, slot 1 state 3, a byte too many
+    ∷ record { question = read (slotsOnly 0x19 9 4); says = 0 ∷ 9 ∷ 9 ∷ 0 ∷ 0 ∷ 0 ∷ 0 ∷ [] }
+    ∷ record { question = read (slotsOnly 0x1F 240 90); says = 0 ∷ 15 ∷ 240 ∷ 0 ∷ 0 ∷ 0 ∷ 0 ∷ [] }
+    ∷ record { question = read (slotsOnly 0x1F 16 6); says = 3 ∷ [] }
+    ∷ record { question = read (slotsOnly 0x1F 255 96); says = 3 ∷ [] }
+    ∷ record { question = read (slotsOnly 0x10 4 2); says = 3 ∷ [] }
+    ∷ record { question = read (set (slotsOnly 0x19 9 4) 3 201); says = 4 ∷ [] }
+    ∷ record { question = read (slotsOnly 0x19 9 3); says = 1 ∷ [] }
+    ∷ record { question = read (set (slotsOnly 0x19 9 4) 7 0xC0); says = 5 ∷ [] }
+    ∷ record { question = read (slotsOnly 0x19 9 5); says = 7 ∷ [] }
     -- what a service link names (02, C-14): the first one's location 5 (17) or endpoint 0 (18), the last one's endpoint 3 (18); both of the
     -- first one (17), its endpoint and the second one's location (18), and the other way round (17); either of them after a link's end 5 (6),
     -- and before a fill bit (17)
@@ -190,6 +204,20 @@ table =
     ∷ record { question = choose (set caseFewer 13 31) (replicate 31 0) 9; says = 0 ∷ 31 ∷ 0x11 ∷ 0 ∷ 2 ∷ 0 ∷ 0 ∷ 61 ∷ 0 ∷ 0 ∷ 30 ∷ [] }
     ∷ record { question = choose (set caseFewer 14 0x80) (replicate 31 0) 9; says = 0 ∷ 31 ∷ 0x11 ∷ 0 ∷ 2 ∷ 0 ∷ 0 ∷ 60 ∷ 0 ∷ 0 ∷ 30 ∷ [] }
     ∷ record { question = check (set caseFewer 14 0x80) (set (evidenceOf (set caseFewer 14 0x80)) 1 1); says = 16 ∷ [] }
+    -- two blocks of 15 slots (02, C-18): both feeders of an endpoint go with its block, so block 1 goes; after it slots 16 to 30 are recoverable. The
+    -- lists give the same bytes, and a block of 16 is refused
+    ∷ record { question = weigh caseWide 0; says = 0 ∷ 42 ∷ 30 ∷ 1 ∷ [] }
+    ∷ record { question = weigh caseWide 1; says = 0 ∷ 42 ∷ 12 ∷ 0 ∷ [] }
+    ∷ record { question = weigh caseWide 2; says = 8 ∷ [] }
+    ∷ record { question = choose caseWide (replicate 199 0) 9; says = 0 ∷ 199 ∷ 0x11 ∷ 1 ∷ 2 ∷ 0 ∷ 0 ∷ 42 ∷ 0 ∷ 0 ∷ 12 ∷ [] }
+    ∷ record { question = check caseWide (evidenceOf caseWide); says = 0 ∷ [] }
+    ∷ record { question = list caseWide; says = linesA }
+    ∷ record { question = act Evict caseWide 0; says = 10 ∷ caseWide }
+    ∷ record { question = act Evict caseWide 1; says = 0 ∷ evictedWide }
+    ∷ record { question = act Reload evictedWide 1; says = 0 ∷ caseWide }
+    ∷ record { question = write (listsOf (pictureOf caseWide)) (replicate 39 0xFF); says = 0 ∷ 39 ∷ caseWide }
+    ∷ record { question = write (handed 15 0 (replicate 15 0) (replicate 15 false) [] [] [] []) (replicate 13 0xFF); says = 0 ∷ 13 ∷ slotsOnly 0x1F 15 6 }
+    ∷ record { question = write (handed 16 0 (replicate 16 0) (replicate 16 false) [] [] [] []) (replicate 13 0xEE); says = 3 ∷ replicate 13 0xEE }
     -- what the program prints for A, for G ("served 0", "choose none") and for A and one byte 00 ("refused 7")
     ∷ record { question = list caseA; says = linesA }
     ∷ record { question = list caseG; says = 115 ∷ 101 ∷ 114 ∷ 118 ∷ 101 ∷ 100 ∷ 32 ∷ 48 ∷ 10 ∷ 99 ∷ 104 ∷ 111 ∷ 111 ∷ 115 ∷ 101 ∷ 32 ∷ 110 ∷ 111 ∷ 110 ∷ 101 ∷ 10 ∷ [] }

@@ -27,7 +27,7 @@ told-refused k h n = answer-refused (λ (j : ℕ). readingOf j h) Refused (λ _.
 -- ---- from the answer to the number
 
 pub accepted-read : (bs : List ℕ) (h : Header) → Accepted h ≡ reading bs → Read bs h
-unfolding reading readingOf
+unfolding reading readingOf pictureFault headerOf
 accepted-read bs h e = go (pictureFault bs) refl e
   where
     go : (k : ℕ) → pictureFault bs ≡ k → Accepted h ≡ readingOf k (headerOf bs) → Read bs h
@@ -36,7 +36,7 @@ accepted-read bs h e = go (pictureFault bs) refl e
 
 -- refused bytes have the fault whose number is told
 pub refused-fault : (bs : List ℕ) (k : ℕ) → Refused k ≡ reading bs → (pictureFault bs ≡ k) × (k ≢ 0)
-unfolding reading readingOf
+unfolding reading readingOf pictureFault headerOf
 refused-fault bs k e = go (pictureFault bs) refl e
   where
     go : (j : ℕ) → pictureFault bs ≡ j → Refused k ≡ readingOf j (headerOf bs) → (pictureFault bs ≡ k) × (k ≢ 0)
@@ -46,7 +46,7 @@ refused-fault bs k e = go (pictureFault bs) refl e
 -- ---- the numbers of the answer
 
 pub reading-numbers : (bs : List ℕ) → readingNumbers (reading bs) ≡ outcome (pictureFault bs) (headerValues (headerOf bs))
-unfolding readingNumbers reading readingOf
+unfolding readingNumbers reading readingOf pictureFault headerOf
 reading-numbers bs = answer-numbers (λ (j : ℕ). readingOf j (headerOf bs)) Refused (λ _. refl) readingNumbers (headerValues (headerOf bs)) refl (λ _. refl) (pictureFault bs)
 
 -- so that an answer that is the reading has its numbers: what `read` ensures

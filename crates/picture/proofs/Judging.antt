@@ -17,7 +17,7 @@ use Rattle.lists.proofs.Faults.{on-zero, on-told, judge-test, judge-each, judge
 use Rattle.lists.proofs.Rules.{judged-then, numbered-both, each-judged, each-numbered}
 use Rattle.picture.specs.declared.Header.{Header}
 use Rattle.picture.specs.declared.Link.{Link}
-use Rattle.picture.specs.Layout.{Edition, edition1, blockSizeMax, blocksMax, endpointsMax, linksMax, stateMax, endAt, sizeOf}
+use Rattle.picture.specs.Layout.{Edition, edition1, blocksMax, endpointsMax, linksMax, stateMax, endAt, sizeOf}
 use Rattle.picture.specs.Picture.{Picture, slotOf}
 use Rattle.picture.specs.Faults.{sizesRight, countsRight, stateFault, linkFault, serviceLinkFault, listFaults, endRight}
 use Rattle.picture.specs.Rules.{Sizes, Counts, States, Ends, noLink, serviceLinkRules, listRules}
@@ -30,7 +30,7 @@ module _ (e : Edition) (h : Header) where
   unfolding sizesRight
   right-sizes t =
       let t1 = and-T (leb 1 (h .«block_size»)) _ t in
-      let t2 = and-T (leb (h .«block_size») blockSizeMax) _ (t1 .1) in
+      let t2 = and-T (leb (h .«block_size») (e .blockSizeMax)) _ (t1 .1) in
       let t3 = and-T (leb 1 (h .slots)) _ (t2 .1) in
       let t4 = and-T (leb (h .slots) (e .slotsMax)) _ (t3 .1) in
       let t5 = and-T (eqb (h .slots % h .«block_size») 0) (leb (h .slots / h .«block_size») blocksMax) (t4 .1) in

@@ -4,17 +4,22 @@ use Prim.Native.Nat.{ℕ, zero, suc}
 use Rattle.picture.specs.declared.Header.{Header}
 use Rattle.picture.specs.declared.Reading.{Reading}
 use Rattle.picture.specs.declared.Reading.the-variants.{Accepted, Refused}
-use Rattle.picture.specs.Picture.{headerOf}
-use Rattle.picture.specs.Faults.{pictureFault}
+use Rattle.picture.specs.Layout.{Edition, editionOf}
+use Rattle.picture.specs.Picture.{headerIn}
+use Rattle.picture.specs.Faults.{faultIn}
 
 -- 0 is accepted, with the header's numbers; any other number is a refusal
 unfoldable pub readingOf : ℕ → Header → Reading
 readingOf zero h = Accepted h
 readingOf (suc k) h = Refused (suc k)
 
+-- what reading any bytes by an edition answers
+abbrev pub readingIn : Edition → List ℕ → Reading
+readingIn e bs = readingOf (faultIn e bs) (headerIn e bs)
+
 -- what reading any bytes answers
 unfoldable pub reading : List ℕ → Reading
-reading bs = readingOf (pictureFault bs) (headerOf bs)
+reading bs = readingIn (editionOf bs) bs
 
 -- β, n, κ, D, L, S
 unfoldable pub headerValues : Header → List ℕ

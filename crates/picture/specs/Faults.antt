@@ -9,13 +9,13 @@ use Rattle.bits.specs.Bits.{fieldAt}
 use Rattle.lists.specs.Lists.{on, first}
 use Rattle.picture.specs.declared.Header.{Header}
 use Rattle.picture.specs.declared.Link.{Link}
-use Rattle.picture.specs.Layout.{Edition, editionOf, headerWidths, fieldIn, blockSizeMax, blocksMax, endpointsMax, linksMax, stateMax, leastBytes, endAt, sizeOf}
+use Rattle.picture.specs.Layout.{Edition, editionOf, headerWidths, fieldIn, blocksMax, endpointsMax, linksMax, stateMax, leastBytes, endAt, sizeOf}
 use Rattle.picture.specs.Picture.{Picture, headerIn, pictureWith}
 
--- 3: β is 1 to 8; n is 1 to its limit, a multiple of β with n/β at most 60
+-- 3: β and n are 1 to their limits; n is a multiple of β with n/β at most 60
 unfoldable pub sizesRight : Edition → Header → Bool
 sizesRight e h =
-    leb 1 (h .«block_size») && (leb (h .«block_size») blockSizeMax && (leb 1 (h .slots) && (leb (h .slots) (e .slotsMax)
+    leb 1 (h .«block_size») && (leb (h .«block_size») (e .blockSizeMax) && (leb 1 (h .slots) && (leb (h .slots) (e .slotsMax)
     && (eqb (h .slots % h .«block_size») 0 && leb (h .slots / h .«block_size») blocksMax))))
 
 -- 4: D is at most 200; L and S are at most 2000
@@ -60,9 +60,12 @@ faultsWith e h p bs =
     ∷ on (ltb (length bs) (sizeOf e h)) 1
     ∷ bodyFaults e h p bs
 
--- the number of the first fault, or 0 where the picture is accepted
-unfoldable pub pictureFault : List ℕ → ℕ
-pictureFault bs =
-    let e : Edition = editionOf bs in
+-- the number of the first fault by an edition, or 0
+abbrev pub faultIn : Edition → List ℕ → ℕ
+faultIn e bs =
     let h : Header = headerIn e bs in
     first (faultsWith e h (pictureWith e h bs) bs)
+
+-- the number of the first fault, or 0 where the picture is accepted
+unfoldable pub pictureFault : List ℕ → ℕ
+pictureFault bs = faultIn (editionOf bs) bs

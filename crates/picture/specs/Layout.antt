@@ -6,17 +6,22 @@ use Rattle.bits.specs.Bits.{fieldAt}
 use Rattle.lists.specs.Lists.{sum}
 use Rattle.picture.specs.declared.Header.{Header}
 
--- an edition: its number; the widths of n, of κ and of a location; the largest n
+-- an edition: its number; the widths of n, of κ and of a location; the largest β and the largest n
 pub record Edition : Type 0 where
   pub number : ℕ
   pub slotsBits : ℕ
   pub nearLimitBits : ℕ
   pub locationBits : ℕ
+  pub blockSizeMax : ℕ
   pub slotsMax : ℕ
 
--- edition 1
+-- edition 1 with blocks of at most m slots
+abbrev pub edition1UpTo : ℕ → Edition
+edition1UpTo m = record { number = 1; slotsBits = 8; nearLimitBits = 8; locationBits = 8; blockSizeMax = m; slotsMax = 240 }
+
+-- edition 1: "β may be 1 to 15" (02, C-18)
 abbrev pub edition1 : Edition
-edition1 = record { number = 1; slotsBits = 8; nearLimitBits = 8; locationBits = 8; slotsMax = 240 }
+edition1 = edition1UpTo 15
 
 -- the edition that the bytes are read by: there is one. A second one is told here, by the first field
 abbrev pub editionOf : List ℕ → Edition
@@ -52,10 +57,6 @@ unfoldable pub fieldIn : List ℕ → List ℕ → ℕ → ℕ → ℕ
 fieldIn bs widths p k = fieldAt bs (p + sum (take k widths)) (getD widths k 0)
 
 -- ---- limits
-
--- β is at most 8
-abbrev pub blockSizeMax : ℕ
-blockSizeMax = 8
 
 -- n/β is at most 60
 abbrev pub blocksMax : ℕ

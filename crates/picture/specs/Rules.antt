@@ -8,13 +8,13 @@ use Rattle.bits.specs.Bits.{bitAt}
 use Rattle.lists.specs.Rules.{Rule, eachRules}
 use Rattle.picture.specs.declared.Header.{Header}
 use Rattle.picture.specs.declared.Link.{Link}
-use Rattle.picture.specs.Layout.{Edition, editionOf, headerWidths, fieldIn, blockSizeMax, blocksMax, endpointsMax, linksMax, stateMax, leastBytes, endAt, sizeOf}
+use Rattle.picture.specs.Layout.{Edition, editionOf, headerWidths, fieldIn, blocksMax, endpointsMax, linksMax, stateMax, leastBytes, endAt, sizeOf}
 use Rattle.picture.specs.Picture.{Picture, headerOf, pictureOf, slotOf}
 
--- "β is 1 to 8; n is 1 to 240, a multiple of β with n/β at most 60"
+-- "β is 1 to 8" (02, C-18: "β may be 1 to 15"); "n is 1 to 240, a multiple of β with n/β at most 60"
 pub record Sizes (e : Edition) (h : Header) : Type 0 where
   pub size-some : 1 ≤ h .«block_size»
-  pub size-most : h .«block_size» ≤ blockSizeMax
+  pub size-most : h .«block_size» ≤ e .blockSizeMax
   pub slots-some : 1 ≤ h .slots
   pub slots-most : h .slots ≤ e .slotsMax
   pub multiple : h .slots % h .«block_size» ≡ 0

@@ -68,7 +68,7 @@ pub const EDITION: usize = 1;
 
 const LEAST_BYTES: usize = 7;
 
-const BLOCK_SIZE_MAX: usize = 8;
+const BLOCK_SIZE_MAX: usize = 15;
 
 pub const SLOTS_MAX: usize = 240;
 

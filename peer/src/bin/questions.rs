@@ -10,7 +10,7 @@ use peer::choice::{Plan, Section};
 use peer::faults::{wrong_ends, FAULTS};
 use peer::foreign::{self, GROWTHS};
 use peer::networks::{network, tied, Size, SHAPES};
-use peer::picture::Picture;
+use peer::picture::{Picture, MAX_BLOCK_SIZE};
 use peer::random::Random;
 use peer::{check, choose, evict, free, pack, reload, show, weigh};
 use peer::{lists_of, samples, write, Lists};
@@ -18,6 +18,8 @@ use peer::{lists_of, samples, write, Lists};
 const DEFAULT_SEED: u64 = 77;
 /// Networks of each shape; in the last of them a bit is turned over.
 const ROUNDS: usize = 5;
+/// Networks with more than eight slots in a block.
+const WIDE: usize = 4;
 /// Networks whose lists are written.
 const WRITTEN: usize = 3;
 /// Random networks in which candidates lose equal weight.
@@ -161,6 +163,19 @@ fn ask_pictures(table: &mut Table, random: &mut Random) {
     }
 }
 
+/// Blocks of more than eight slots: the sample with fifteen, and networks of two blocks in which most
+/// slots are held, near and reached.
+fn ask_wide(table: &mut Table, random: &mut Random) {
+    let mut pictures = vec![samples::wide()];
+    for _ in 0..WIDE {
+        let (block_size, endpoints) = (random.between(9, MAX_BLOCK_SIZE), random.between(2, 4));
+        pictures.push(tied(random, block_size, 2, endpoints));
+    }
+    for (round, picture) in pictures.iter().enumerate() {
+        ask(table, random, picture, &pack(picture), round);
+    }
+}
+
 /// The admissible candidates of least loss, rising.
 fn least_loss(plan: &Plan) -> Vec<&Section> {
     let least = plan.admissible().map(|section| section.cut.loss).min();
@@ -238,7 +253,9 @@ fn ask_lists(table: &mut Table, random: &mut Random) {
 
 /// Block sizes and numbers of slots that a picture may have and may not.
 fn ask_blocks(table: &mut Table, random: &mut Random) {
-    for (block_size, slots) in [(1, 0), (1, 60), (1, 61), (8, 8), (9, 9), (3, 4)] {
+    for (block_size, slots) in
+        [(1, 0), (1, 60), (1, 61), (3, 4), (8, 8), (9, 9), (15, 15), (15, 16), (16, 16)]
+    {
         let mut lists = lists_of(&samples::case('M'));
         lists.block_size = block_size;
         lists.states.resize(slots, 2);
@@ -278,6 +295,7 @@ fn main() {
     let mut random = Random::new(seed);
     let mut table = Table { rows: Vec::new() };
     ask_pictures(&mut table, &mut random);
+    ask_wide(&mut table, &mut random);
     let asked = table.rows.len();
     for _ in 0..WRITTEN {
         ask_lists(&mut table, &mut random);
@@ -290,7 +308,7 @@ fn main() {
     let links = table.rows.len() - asked - written - ties;
     eprintln!(
         "questions: {asked} of {} pictures, {written} of lists, {ties} of ties, {links} of links",
-        ROUNDS * SHAPES.len()
+        ROUNDS * SHAPES.len() + 1 + WIDE
     );
     println!("unfoldable pub table : List Row\ntable =\n    {}\n    ∷ []", table.rows.join("\n    ∷ "));
 }

@@ -3,6 +3,7 @@ use mathlib.Core.Path.{sym, ap, _∙_}
 use Prim.Native.Nat.{ℕ}
 use Rattle.picture.specs.declared.Reading.the-variants.{Accepted}
 use Rattle.picture.specs.Picture.{headerOf}
+use Rattle.picture.specs.Faults.{pictureFault}
 use Rattle.picture.specs.Answers.{readingOf, reading}
 use Rattle.picture.proofs.Answering.{told, told-accepted, told-refused}
 use borrow.Author.Needs.{needs}
@@ -16,11 +17,11 @@ header-of-requires : tie.Need-header-of-requires
 header-of-requires c κs = search needs
 
 returns : tie.Need-returns
-unfolding reading headerOf
+unfolding reading pictureFault headerOf
 returns c = told _ (ap Accepted (c .header-of .ensures) ∙ told-accepted _ (sym (c .before .before .fault .ensures) ∙ c .before .if1 .taken))
 
 returns-2 : tie.Need-returns-2
-unfolding reading
+unfolding reading pictureFault headerOf
 returns-2 c =
     told _
     (told-refused _ _ (c .if1 .left) ∙ ap (λ (k : ℕ). readingOf k (headerOf (c .before .before .before .args .s .now))) (c .before .fault .ensures))

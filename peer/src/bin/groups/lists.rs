@@ -2,7 +2,8 @@
 
 use peer::faults::{Fault, FAULTS};
 use peer::networks::{network, repeat_links, Size, SHAPES};
-use peer::picture::{picture_bytes, Picture, MAX_LINKS, MAX_PICTURE_BYTES};
+use peer::picture::{picture_bytes, Picture};
+use peer::picture::{MAX_BLOCK_SIZE, MAX_LINKS, MAX_PICTURE_BYTES, MAX_SLOTS};
 use peer::random::Random;
 use peer::{lists_of, pack, read, samples, Lists};
 
@@ -125,8 +126,8 @@ pub fn limits(comparison: &mut Comparison, random: &mut Random, count: usize) {
     }
 }
 
-const BLOCK_SIZES: [usize; 9] =
-    [1, 4, 8, 16, 16 + 4, 256 + 4, 65_536 + 4, 1 << 31 | 4, u32::MAX as usize];
+const BLOCK_SIZES: [usize; 10] =
+    [1, 4, 8, 15, 16, 16 + 4, 256 + 4, 65_536 + 4, 1 << 31 | 4, u32::MAX as usize];
 const SLOTS: [usize; 13] = [0, 1, 4, 60, 61, 64, 240, 241, 244, 248, 256 + 240, 65_536 + 240, VERY_LONG];
 const ENDPOINTS: [usize; 6] = [0, 200, 201, 256 + 200, 65_536 + 200, VERY_LONG];
 const LINKS: [usize; 9] =
@@ -325,11 +326,11 @@ fn comes_back(comparison: &mut Comparison, random: &mut Random, picture: &[u8]) 
 
 /// Sizes of chance, which most of the time are a picture's.
 fn any_header(random: &mut Random) -> Header {
-    let block_size = random.between(1, 8) as u32;
+    let block_size = random.between(1, MAX_BLOCK_SIZE);
     Header {
         edition: 1,
-        block_size,
-        slots: block_size * random.between(1, 30) as u32,
+        block_size: block_size as u32,
+        slots: (block_size * random.between(1, MAX_SLOTS / MAX_BLOCK_SIZE)) as u32,
         near_limit: random.byte().into(),
         endpoints: random.between(1, 20) as u32,
         links: random.below(40) as u32,

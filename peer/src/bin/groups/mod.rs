@@ -21,7 +21,7 @@ const ROOM: usize = evidence_bytes(MAX_SLOTS, MAX_BLOCKS) + 11;
 
 type Group = fn(&mut Comparison, &mut Random, usize);
 
-pub const ALL: [(&str, Group); 32] = [
+pub const ALL: [(&str, Group); 33] = [
     ("truncations of the samples", pictures::truncations),
     ("bit flips of the samples", pictures::bit_flips),
     ("wrong ends of links", pictures::wrong_ends),
@@ -39,6 +39,7 @@ pub const ALL: [(&str, Group); 32] = [
     ("networks: repeated links", networks::repeated),
     ("networks: layers", networks::layers),
     ("networks: full size", networks::full),
+    ("networks: every block size", networks::block_sizes),
     ("ties: small", ties::small),
     ("ties: large", ties::large),
     ("evidence of the samples", evidence::of_samples),

@@ -2,7 +2,7 @@
 
 use peer::networks::{network, repeat_links, Shape, Size, SHAPES};
 use peer::pack;
-use peer::picture::Picture;
+use peer::picture::{Picture, MAX_BLOCK_SIZE};
 use peer::random::Random;
 
 use super::harness::Comparison;
@@ -58,6 +58,19 @@ pub fn full(comparison: &mut Comparison, random: &mut Random, count: usize) {
         let mut picture = network(random, SHAPES[round % SHAPES.len()], size);
         repeat_links(random, &mut picture);
         large(comparison, random, &picture, round);
+    }
+}
+
+/// Every shape with every block size, all blocks through every call.
+pub fn block_sizes(comparison: &mut Comparison, random: &mut Random, count: usize) {
+    for _ in 0..count.div_ceil(4000) {
+        for block_size in 1..=MAX_BLOCK_SIZE {
+            for shape in SHAPES {
+                let size = Size::of_blocks(random, block_size);
+                let picture = network(random, shape, size);
+                every_call(comparison, random, &pack(&picture));
+            }
+        }
     }
 }
 

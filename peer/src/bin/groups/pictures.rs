@@ -85,6 +85,20 @@ pub fn header_fields(comparison: &mut Comparison, random: &mut Random, _: usize)
     }
 }
 
+/// Block sizes and slots at their limits, and one step on.
+const BLOCKS: [(u32, u32); 10] = [
+    (1, 60),
+    (1, 61),
+    (4, 240),
+    (4, 244),
+    (5, 240),
+    (8, 240),
+    (8, 248),
+    (15, 240),
+    (15, 241),
+    (15, 255),
+];
+
 /// Each limit, its neighbours and the ends of its field, and several of them together.
 pub fn limits(comparison: &mut Comparison, random: &mut Random, _: usize) {
     let counts = [0, 1, 1999, 2000, 2001, 2048, 4095];
@@ -97,7 +111,7 @@ pub fn limits(comparison: &mut Comparison, random: &mut Random, _: usize) {
             around(comparison, random, Header { endpoints, serving: links, ..PLAIN });
         }
     }
-    for (block_size, slots) in [(1, 60), (1, 61), (4, 240), (4, 244), (8, 240), (8, 248), (5, 240)] {
+    for (block_size, slots) in BLOCKS {
         for (endpoints, links) in [(200, 2000), (201, 2000), (200, 2001), (0, 2000)] {
             let sizes = Header { block_size, slots, endpoints, links, serving: links, ..PLAIN };
             around(comparison, random, sizes);
