@@ -2,7 +2,7 @@
 
 use crate::foreign::{self, GROWTHS};
 use crate::networks::{network, tied, Size, SHAPES};
-use crate::picture::State;
+use crate::picture::{State, MAX_BLOCK_SIZE};
 use crate::random::Random;
 use crate::tests::{choice_of, evidence_of};
 use crate::{check, evict, lists_of, pack, read, refusals, weigh, write, Picture};
@@ -16,10 +16,12 @@ fn small_networks(seed: u64, count: usize) -> impl Iterator<Item = Picture> {
     })
 }
 
+/// Ties of small blocks, and of blocks of up to fifteen slots.
 fn tied_networks(seed: u64, count: usize) -> impl Iterator<Item = Picture> {
     let mut random = Random::new(seed);
-    (0..count).map(move |_| {
-        let (block_size, blocks) = (random.between(1, 3), random.between(2, 4));
+    (0..count).map(move |round| {
+        let largest = if round % 4 == 0 { MAX_BLOCK_SIZE } else { 3 };
+        let (block_size, blocks) = (random.between(1, largest), random.between(2, 4));
         let endpoints = blocks + random.below(6);
         tied(&mut random, block_size, blocks, endpoints)
     })
@@ -102,7 +104,7 @@ fn is_candidate_by_words(picture: &Picture, block: usize) -> bool {
 
 #[test]
 fn weights_and_forests_follow_the_words() {
-    for picture in small_networks(2, 1000) {
+    for picture in small_networks(2, 1000).chain(tied_networks(7, 200)) {
         let bytes = pack(&picture);
         let evidence = evidence_of(&bytes);
         let length = 2 * picture.slots.len();

@@ -175,6 +175,16 @@ fn both_feeders_of_an_endpoint_go_with_a_block_of_fifteen() {
 }
 
 #[test]
+fn the_fifteenth_slot_is_of_block_0_and_the_next_of_block_1() {
+    let mut picture = wide();
+    picture.slots.iter_mut().for_each(|slot| slot.near = false);
+    picture.slots[14].near = true;
+    assert_eq!(picture.candidates(), [0]);
+    picture.slots.swap(14, 15);
+    assert_eq!(picture.candidates(), [1]);
+}
+
+#[test]
 fn examples_keep_their_further_statements() {
     assert_eq!(evidence_of(&bytes_of('E')).len(), 17);
     assert_eq!(evidence_of(&bytes_of('H')), A_EVIDENCE);

@@ -6,7 +6,7 @@ pub mod Judging
 pub mod Kept
 pub mod Accepted
 pub mod Answering
-pub mod Widened
+pub mod Raised
 pub mod Facts
 pub mod Fronts
 pub mod Long

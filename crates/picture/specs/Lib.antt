@@ -2,12 +2,12 @@
 -- C-18 for the largest block.
 
 -- To be believed: what 01 says of a picture. The widths of its fields, its parts and its limits; what its bytes say; the rules that it
--- keeps, with the number of each; what reading answers, with 01's numbers; and what a larger limit of β changes
+-- keeps, with the number of each; what reading answers, with 01's numbers; and what a raised limit of β changes
 pub mod Layout
 pub mod Picture
 pub mod Rules
 pub mod Answers
-pub mod Widened
+pub mod Raised
 -- Computes: the number of the first fault of any bytes. `picture-judged` of proofs/Accepted.antt shows that it is the number of the first rule that
 -- is broken, or 0 where all of them hold
 pub mod Faults

@@ -1,4 +1,4 @@
--- A larger limit of β changes the answers of bytes that got 3, and no other. Assumes nothing.
+-- A raised limit of β changes answers that were 3, and no other. Assumes nothing.
 use mathlib.Core.Path.{_≡_, refl, sym, ap, _∙_}
 use mathlib.Core.Bool.{Bool, true, false, not}
 use mathlib.Core.List.{List, _∷_}
@@ -17,7 +17,7 @@ use Rattle.picture.specs.Layout.{Edition, edition1, edition1UpTo, header
 use Rattle.picture.specs.Picture.{headerIn, pictureWith, headerOf, pictureOf}
 use Rattle.picture.specs.Faults.{sizesRight, countsRight, endRight, bodyFaults, faultsWith, faultIn}
 use Rattle.picture.specs.Answers.{readingOf, readingIn, reading}
-use Rattle.picture.specs.Widened.{Widened}
+use Rattle.picture.specs.Raised.{Raised}
 
 -- what is judged before the sizes comes first; else the third test tells
 third : (a b : Bool) (l r : List ℕ) → (first (on a 1 ∷ on b 2 ∷ on true 3 ∷ l) ≡ first (on a 1 ∷ on b 2 ∷ r)) ⊎ (first (on a 1 ∷ on b 2 ∷ on true 3 ∷ l) ≡ 3)
@@ -93,12 +93,12 @@ module _ (m : ℕ) (few : m ≤ edition1 .blockSizeMax) (bs : List ℕ) where
       by-number : ℕ → Reading
       by-number k = readingOf k (headerOf bs)
 
-  pub widened : Widened m bs
-  widened = record { accepted = λ h a. ⊎-elim (λ e. sym e ∙ a) (λ r. absurd (refused h (sym (r .0) ∙ a))) answers; lists = lists-same; answer = answers }
+  pub raised : Raised m bs
+  raised = record { accepted = λ h a. ⊎-elim (λ e. sym e ∙ a) (λ r. absurd (refused h (sym (r .0) ∙ a))) answers; lists = lists-same; answer = answers }
     where
       refused : (h : Header) → ¬ (Refused 3 ≡ Accepted h)
       refused h e = let z : _≡_ {A = ℕ} 0 1 = cc in absurd (omega arith)
 
--- what was read while β was at most 8, as 01 has it
-pub eight-widened : (bs : List ℕ) → Widened 8 bs
-eight-widened = widened 8 (omega arith)
+-- what was read while β was at most 8, by 01
+pub raised-from-eight : (bs : List ℕ) → Raised 8 bs
+raised-from-eight = raised 8 (omega arith)
