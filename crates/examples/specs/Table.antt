@@ -204,8 +204,8 @@ table =
     ∷ record { question = choose (set caseFewer 13 31) (replicate 31 0) 9; says = 0 ∷ 31 ∷ 0x11 ∷ 0 ∷ 2 ∷ 0 ∷ 0 ∷ 61 ∷ 0 ∷ 0 ∷ 30 ∷ [] }
     ∷ record { question = choose (set caseFewer 14 0x80) (replicate 31 0) 9; says = 0 ∷ 31 ∷ 0x11 ∷ 0 ∷ 2 ∷ 0 ∷ 0 ∷ 60 ∷ 0 ∷ 0 ∷ 30 ∷ [] }
     ∷ record { question = check (set caseFewer 14 0x80) (set (evidenceOf (set caseFewer 14 0x80)) 1 1); says = 16 ∷ [] }
-    -- two blocks of 15 slots (02, C-18): both feeders of an endpoint go with its block, so block 1 goes; after it slots 16 to 30 are recoverable. The
-    -- lists give the same bytes, and a block of 16 is refused
+    -- two blocks of 15 slots (02, C-18): both feeders of an endpoint go with their block, and endpoint 1 is protected, so block 1 goes; slots 16 to 30
+    -- are then recoverable. The lists give the same bytes, and a block of 16 is refused
     ∷ record { question = weigh caseWide 0; says = 0 ∷ 42 ∷ 30 ∷ 1 ∷ [] }
     ∷ record { question = weigh caseWide 1; says = 0 ∷ 42 ∷ 12 ∷ 0 ∷ [] }
     ∷ record { question = weigh caseWide 2; says = 8 ∷ [] }
