@@ -7,6 +7,7 @@ use native.Mathlib.Omega.{arith}
 use native.Mathlib.Nat.{le-of-lt}
 use lib.Dec.{T, eqb, eqb→eq}
 use Rattle.rows.specs.declared.Range.{Range}
+use Rattle.rows.specs.Rows.{marked}
 use Rattle.rows.specs.Ranges.{avoiding}
 use Rattle.graph.specs.Sweeps.{Ready, Finds, Sweep, Swept}
 use Rattle.graph.specs.Sweeps.Sweep.{entered, kept}
@@ -27,10 +28,10 @@ pub sweep-fresh : {A : ℕ → Type 0} {d p k p′ k′ : ℕ} {f f′ : Bool} �
 sweep-fresh (entered t a) t′ = absurd t′
 sweep-fresh (kept why) t′ = t′
 
--- a sweep goes by what finds the slot, whatever that is called
-pub sweep-as : {A C : ℕ → Type 0} {d p k p′ k′ : ℕ} {f f′ : Bool} → ((u : ℕ) → A u → C u) → ((u : ℕ) → C u → A u) → Sweep A d f p k f′ p′ k′ → Sweep C d f p k f′ p′ k′
-sweep-as to back (entered t a) = entered t (record { found = to _ (a .found); lowest = λ w c. a .lowest w (back w c) })
-sweep-as to back (kept why) = kept (λ t u c. why t u (back u c))
+-- a sweep goes by what finds the slot where it is fresh, whatever that is called
+pub sweep-as : {A C : ℕ → Type 0} {d p k p′ k′ : ℕ} {f f′ : Bool} → (T f → (u : ℕ) → A u → C u) → (T f → (u : ℕ) → C u → A u) → Sweep A d f p k f′ p′ k′ → Sweep C d f p k f′ p′ k′
+sweep-as to back (entered t a) = entered t (record { found = to t _ (a .found); lowest = λ w c. a .lowest w (back t w c) })
+sweep-as to back (kept why) = kept (λ t u c. why t u (back t u c))
 
 -- two sweeps are one
 pub sweep-then : {A B C : ℕ → ℕ → Type 0} {d p k p′ k′ p″ k″ : ℕ} {f f′ f″ : Bool} → Joined A B C → (v : ℕ)
@@ -52,18 +53,19 @@ sweep-then j v (kept why) (kept why′) = kept (λ t u c. ⊎-elim (λ x. why t 
 
 -- ---- every slot
 
-module _ {d : ℕ} {fresh parent depth : List ℕ} where
-  pub swept-none : (frontier : ℕ → Bool) (linked : ℕ → ℕ → Bool) → Ready fresh parent depth → ((v u : ℕ) → ¬ Finds frontier linked v u)
-      → Swept frontier linked d fresh parent depth fresh parent depth
+module _ {words d : ℕ} {fresh parent depth : List ℕ} where
+  pub swept-none : (frontier : ℕ → Bool) (linked : ℕ → ℕ → Bool) → Ready words fresh parent depth → ((v u : ℕ) → ¬ Finds frontier linked v u)
+      → Swept words frontier linked d fresh parent depth fresh parent depth
   swept-none frontier linked ready none = record { ready = ready; slot = λ v. kept (λ t u. none v u) }
 
   module _ {fresh′ parent′ depth′ : List ℕ} where
-    pub swept-as : {F G : ℕ → Bool} {L M : ℕ → ℕ → Bool} → ((v u : ℕ) → Finds F L v u → Finds G M v u) → ((v u : ℕ) → Finds G M v u → Finds F L v u)
-        → Swept F L d fresh parent depth fresh′ parent′ depth′ → Swept G M d fresh parent depth fresh′ parent′ depth′
+    pub swept-as : {F G : ℕ → Bool} {L M : ℕ → ℕ → Bool} → ((v : ℕ) → T (marked fresh v) → (u : ℕ) → Finds F L v u → Finds G M v u)
+        → ((v : ℕ) → T (marked fresh v) → (u : ℕ) → Finds G M v u → Finds F L v u)
+        → Swept words F L d fresh parent depth fresh′ parent′ depth′ → Swept words G M d fresh parent depth fresh′ parent′ depth′
     swept-as to back s = record { ready = s .ready; slot = λ v. sweep-as (to v) (back v) (s .slot v) }
 
     pub swept-then : {fresh″ parent″ depth″ : List ℕ} {F G H : ℕ → Bool} {L M N : ℕ → ℕ → Bool} → Joined (Finds F L) (Finds G M) (Finds H N)
-        → Swept F L d fresh parent depth fresh′ parent′ depth′ → Swept G M d fresh′ parent′ depth′ fresh″ parent″ depth″ → Swept H N d fresh parent depth fresh″ parent″ depth″
+        → Swept words F L d fresh parent depth fresh′ parent′ depth′ → Swept words G M d fresh′ parent′ depth′ fresh″ parent″ depth″ → Swept words H N d fresh parent depth fresh″ parent″ depth″
     swept-then j a b = record { ready = b .ready; slot = λ v. sweep-then j v (a .slot v) (b .slot v) }
 
 -- ---- the marks of a frontier, or of a row, taken part by part

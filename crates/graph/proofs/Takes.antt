@@ -10,7 +10,7 @@ use native.Mathlib.Nat.{le-of-eq}
 use lib.Bits.{bitAnd, bitXor}
 use lib.Dec.{T, eqb, eqb-refl, eqb→eq}
 use lib.ListN.{length, getD, set, length-set}
-use Rattle.rows.specs.Rows.{marked, rowWords, inWord}
+use Rattle.rows.specs.Rows.{marked, Narrow, inWord}
 use Rattle.rows.specs.declared.Range.{Range}
 use Rattle.rows.specs.Ranges.{without, avoiding, LeftOut}
 use Rattle.graph.specs.Sweeps.{Locations, Ready, Entered, Finds, Sweep, Swept}
@@ -18,8 +18,8 @@ use Rattle.graph.specs.Sweeps.Sweep.{entered, kept}
 use Rattle.lists.proofs.Tests.{T?, is-true, is-false, xor-false}
 use Rattle.rows.proofs.Digits.{digit-xor}
 use Rattle.rows.proofs.InWords.{both-words, common-words, none-in-zero}
-use Rattle.rows.proofs.Parts.{done, done-none, done-marks, marks-done}
-use Rattle.rows.proofs.Marks.{mark-is, word-is, mark-here, mark-other, word-marked, marked-word, fromWord, from-first, from-past, from-part, row-picked}
+use Rattle.rows.proofs.Parts.{done, done-none, done-split, split-done}
+use Rattle.rows.proofs.Marks.{mark-is, word-is, mark-here, mark-other, word-marked, marked-word, fromWord, from-word, from-first, from-part, row-picked, narrow-past}
 use Rattle.rows.proofs.Ranges.{without-both, without-as}
 use Rattle.graph.proofs.Sweeps.{sweep-fresh, swept-none, swept-then, swept-as, row-joined}
 
@@ -39,6 +39,12 @@ module _ (row fresh : List ℕ) (i : ℕ) where
   marked-common v s t =
       both-words (getD row i 0) (getD fresh i 0) (i * 64) v s (marked-word fresh i v (word-marked row i v s .0) t)
 
+  -- there is nothing: the word is passed over
+  pub word-passed : {words : ℕ} (r : Range) (u d : ℕ) {parent depth : List ℕ} → Ready words fresh parent depth → common ≡ 0
+      → Swept words (eqb u) (avoiding r (λ _. inWord (getD row i 0) (i * 64))) d fresh parent depth fresh parent depth
+  word-passed r u d ready z =
+      record { ready = ready; slot = λ v. kept (λ t w c. none-in-zero common (i * 64) z v (marked-common v (without-both r _ v (c .link) .0) t)) }
+
   -- what of it is outside a range
   module _ (r : Range) {new : ℕ} (left : LeftOut r common (i * 64) new) where
     new-marked : (v : ℕ) → T (inWord new (i * 64) v) → (v / 64 ≡ i) × T (marked fresh v) × T (without r (inWord (getD row i 0) (i * 64)) v)
@@ -54,13 +60,9 @@ module _ (row fresh : List ℕ) (i : ℕ) where
     pub new-locations : Locations (marked fresh) → Locations (inWord new (i * 64))
     new-locations l = record { within = λ v t. l .within v (new-marked v t .1) }
 
-    module _ (u d : ℕ) (parent depth : List ℕ) (ready : Ready fresh parent depth) where
-      -- there is nothing: the word is passed over
-      pub word-passed : new ≡ 0 → Swept (eqb u) (avoiding r (λ _. inWord (getD row i 0) (i * 64))) d fresh parent depth fresh parent depth
-      word-passed z = record { ready = ready; slot = λ v. kept (λ t w c. none-in-zero new (i * 64) z v (marked-new v (c .link) t)) }
-
+    module _ {words u d : ℕ} {parent depth : List ℕ} (ready : Ready words fresh parent depth) where
       -- it is entered, and is fresh no more
-      module _ (low : i < length fresh) (parent′ depth′ : List ℕ) (e : Entered (inWord new (i * 64)) u d parent depth parent′ depth′) where
+      module _ (low : i < length fresh) {parent′ depth′ : List ℕ} (e : Entered (inWord new (i * 64)) u d parent depth parent′ depth′) where
         abbrev fresh′ : List ℕ
         fresh′ = set fresh i (bitXor (getD fresh i 0) new)
 
@@ -94,13 +96,14 @@ module _ (row fresh : List ℕ) (i : ℕ) where
         slots : (v : ℕ) → Slot v
         slots v = by-cases (T? (inWord new (i * 64) v)) (new-slot v) (old-slot v)
 
-        pub word-swept : Swept (eqb u) (avoiding r (λ _. inWord (getD row i 0) (i * 64))) d fresh parent depth fresh′ parent′ depth′
+        pub word-swept : Swept words (eqb u) (avoiding r (λ _. inWord (getD row i 0) (i * 64))) d fresh parent depth fresh′ parent′ depth′
         unfolding Slot
         word-swept =
             record {
               ready =
                   record {
-                    words = simp length-set (ready .words);
+                    long = simp length-set (ready .long);
+                    narrow = record { most = ready .narrow .most; within = λ v t. ready .narrow .within v (sweep-fresh (slots v) t) };
                     locations = record { within = λ v t. ready .locations .within v (sweep-fresh (slots v) t) };
                     whole = e .whole;
                   };
@@ -110,41 +113,38 @@ module _ (row fresh : List ℕ) (i : ℕ) where
 -- ---- the loop over the words
 
 -- the marks of the words below i are swept
-pub record Sweeping (r : Range) (row : List ℕ) (u d i : ℕ) (fresh₀ parent₀ depth₀ fresh parent depth : List ℕ) : Type 0 where
-  pub low : i ≤ rowWords
-  pub words : length row ≡ rowWords
-  pub swept : Swept (eqb u) (avoiding r (λ _. done (marked row) (fromWord i (marked row)))) d fresh₀ parent₀ depth₀ fresh parent depth
+pub record Sweeping (r : Range) (row : List ℕ) (words u d i : ℕ) (fresh₀ parent₀ depth₀ fresh parent depth : List ℕ) : Type 0 where
+  pub low : i ≤ words
+  pub swept : Swept words (eqb u) (avoiding r (λ _. done (marked row) (fromWord i (marked row)))) d fresh₀ parent₀ depth₀ fresh parent depth
 
-module _ {r : Range} {row : List ℕ} {u d : ℕ} {fresh₀ parent₀ depth₀ : List ℕ} where
-  pub begun : length row ≡ rowWords → Ready fresh₀ parent₀ depth₀ → Sweeping r row u d 0 fresh₀ parent₀ depth₀ fresh₀ parent₀ depth₀
-  begun l ready =
+module _ {r : Range} {row : List ℕ} {words u d : ℕ} {fresh₀ parent₀ depth₀ : List ℕ} where
+  pub begun : Ready words fresh₀ parent₀ depth₀ → Sweeping r row words u d 0 fresh₀ parent₀ depth₀ fresh₀ parent₀ depth₀
+  begun ready =
       record {
         low = omega arith;
-        words = l;
         swept = swept-none _ _ ready (λ v w f. done-none _ _ (from-first (marked row)) v (without-both r _ v (f .link) .0));
       }
 
-  module _ {i : ℕ} {fresh parent depth : List ℕ} (s : Sweeping r row u d i fresh₀ parent₀ depth₀ fresh parent depth) where
-    next : {fresh′ parent′ depth′ : List ℕ} → i < rowWords → Swept (eqb u) (avoiding r (λ _. inWord (getD row i 0) (i * 64))) d fresh parent depth fresh′ parent′ depth′
-        → Sweeping r row u d (i + 1) fresh₀ parent₀ depth₀ fresh′ parent′ depth′
+  module _ {i : ℕ} {fresh parent depth : List ℕ} (s : Sweeping r row words u d i fresh₀ parent₀ depth₀ fresh parent depth) where
+    next : {fresh′ parent′ depth′ : List ℕ} → i < words → Swept words (eqb u) (avoiding r (λ _. inWord (getD row i 0) (i * 64))) d fresh parent depth fresh′ parent′ depth′
+        → Sweeping r row words u d (i + 1) fresh₀ parent₀ depth₀ fresh′ parent′ depth′
     next l w =
         record {
           low = omega arith;
-          words = s .words;
           swept = swept-then (row-joined (from-part i (marked row)) (row-picked row i) r u) (s .swept) w;
         }
 
-    pub miss : {new : ℕ} → i < rowWords → LeftOut r (common row fresh i) (i * 64) new → new ≡ 0 → Sweeping r row u d (i + 1) fresh₀ parent₀ depth₀ fresh parent depth
-    miss l o z = next l (word-passed row fresh i r o u d parent depth (s .swept .ready) z)
+    pub miss : i < words → common row fresh i ≡ 0 → Sweeping r row words u d (i + 1) fresh₀ parent₀ depth₀ fresh parent depth
+    miss l z = next l (word-passed row fresh i r u d (s .swept .ready) z)
 
-    pub hit : {new : ℕ} {parent′ depth′ : List ℕ} → i < rowWords → LeftOut r (common row fresh i) (i * 64) new → Entered (inWord new (i * 64)) u d parent depth parent′ depth′
-        → Sweeping r row u d (i + 1) fresh₀ parent₀ depth₀ (set fresh i (bitXor (getD fresh i 0) new)) parent′ depth′
-    hit l o e = next l (word-swept row fresh i r o u d parent depth (s .swept .ready) (omega (arith, s .swept .ready .words)) _ _ e)
+    pub hit : {new : ℕ} {parent′ depth′ : List ℕ} → i < words → LeftOut r (common row fresh i) (i * 64) new → Entered (inWord new (i * 64)) u d parent depth parent′ depth′
+        → Sweeping r row words u d (i + 1) fresh₀ parent₀ depth₀ (set fresh i (bitXor (getD fresh i 0) new)) parent′ depth′
+    hit l o e = let y = s .swept .ready in next l (word-swept row fresh i r o y (omega (arith, y .long, y .narrow .most)) e)
 
-    pub ended : rowWords ≤ i → Swept (eqb u) (avoiding r (λ _. marked row)) d fresh₀ parent₀ depth₀ fresh parent depth
-    ended l =
-        let none = from-past row i (omega (arith, s .words)) in
+    -- a slot that was fresh is in one of the words, so that the row's marks in others find none
+    pub ended : Narrow words fresh₀ → words ≤ i → Swept words (eqb u) (avoiding r (λ _. marked row)) d fresh₀ parent₀ depth₀ fresh parent depth
+    ended narrow l =
         swept-as
-        (λ v w f. record { there = f .there; link = without-as r _ _ v (done-marks _ _ none v) (f .link) })
-        (λ v w f. record { there = f .there; link = without-as r _ _ v (marks-done _ _ none v) (f .link) })
+        (λ v t w f. record { there = f .there; link = without-as r _ _ v (λ m. done-split _ _ v m .0) (f .link) })
+        (λ v t w f. record { there = f .there; link = without-as r _ _ v (λ m. split-done _ _ v m (λ o. narrow-past narrow l v (from-word i (marked row) v o .0) t)) (f .link) })
         (s .swept)

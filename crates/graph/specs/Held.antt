@@ -9,7 +9,8 @@ use Rattle.rows.specs.Rows.{marked, slotsMax}
 unfoldable pub heldIn : List ℕ → ℕ → Bool
 heldIn row v = eqb v 0 || marked row v
 
--- every mark of a row is a slot's
-pub record SlotsOnly (row : List ℕ) : Type 0 where
+-- every mark of a row is that of one of the slots 1 to n
+pub record SlotsOnly (n : ℕ) (row : List ℕ) : Type 0 where
+  pub most : n ≤ slotsMax
   pub above : (v : ℕ) → T (marked row v) → 0 < v
-  pub within : (v : ℕ) → T (marked row v) → v ≤ slotsMax
+  pub within : (v : ℕ) → T (marked row v) → v ≤ n

@@ -5,7 +5,7 @@ use mathlib.Core.Path.{_≡_}
 use Prim.Native.Nat.{ℕ, _≤_}
 use lib.ListN.{length, getD}
 use lib.Dec.{T}
-use Rattle.rows.specs.Rows.{marked, locationsMax, slotsMax, rowWords}
+use Rattle.rows.specs.Rows.{marked, Narrow, locationsMax, slotsMax, rowWords}
 
 -- the marks are locations': none is above the last slot
 pub record Locations (marks : ℕ → Bool) : Type 0 where
@@ -16,9 +16,10 @@ pub record Whole (parent depth : List ℕ) : Type 0 where
   pub parents : length parent ≡ locationsMax
   pub depths : length depth ≡ locationsMax
 
--- what the sweeps work on is as they need it: the row of the fresh slots has its words and marks no more than locations
-pub record Ready (fresh parent depth : List ℕ) : Type 0 where
-  pub words : length fresh ≡ rowWords
+-- what the sweeps work on is as they need it: the row of the fresh slots has its words, and marks no more than locations, in the first of them
+pub record Ready (words : ℕ) (fresh parent depth : List ℕ) : Type 0 where
+  pub long : length fresh ≡ rowWords
+  pub narrow : Narrow words fresh
   pub locations : Locations (marked fresh)
   pub whole : Whole parent depth
 
@@ -47,6 +48,6 @@ pub data Sweep (finds : ℕ → Type 0) (d : ℕ) (fresh : Bool) (p k : ℕ) : B
   kept : (T fresh → (u : ℕ) → finds u → ⊥) → Sweep finds d fresh p k fresh p k
 
 -- the rows of a frontier are swept at depth d: every slot, in the row of the fresh ones and in the entries
-pub record Swept (frontier : ℕ → Bool) (linked : ℕ → ℕ → Bool) (d : ℕ) (fresh parent depth fresh′ parent′ depth′ : List ℕ) : Type 0 where
-  pub ready : Ready fresh′ parent′ depth′
+pub record Swept (words : ℕ) (frontier : ℕ → Bool) (linked : ℕ → ℕ → Bool) (d : ℕ) (fresh parent depth fresh′ parent′ depth′ : List ℕ) : Type 0 where
+  pub ready : Ready words fresh′ parent′ depth′
   pub slot : (v : ℕ) → Sweep (Finds frontier linked v) d (marked fresh v) (getD parent v 0) (getD depth v 0) (marked fresh′ v) (getD parent′ v 0) (getD depth′ v 0)

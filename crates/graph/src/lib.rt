@@ -1,6 +1,6 @@
 // A walk over links between locations by levels: the parent and the depth of every slot that chains from the origin reach.
 ghost use lib.Dec.{eqb};
-ghost use Rattle.rows.specs.Rows.{marked, linkedIn, inWord};
+ghost use Rattle.rows.specs.Rows.{marked, linkedIn, inWord, Narrow};
 ghost use Rattle.rows.specs.Ranges.{without, avoiding};
 ghost use Rattle.graph.specs.Held.{heldIn, SlotsOnly};
 ghost use Rattle.graph.specs.Steps.{Walked};
@@ -11,7 +11,7 @@ use rows::SLOTS;
 use rows::WORDS;
 
 // No chain of fewest links steps to a slot twice.
-const DEEPEST: u8 = SLOTS as u8;
+const DEEPEST: u16 = SLOTS as u16;
 
 // An entry of a forest (01: the parent and the depth of a slot).
 pub struct Node {
@@ -21,19 +21,19 @@ pub struct Node {
 
 // The entries of all locations, and a row of what is reached.
 pub struct Forest {
-    pub parent: [u8; LOCATIONS],
-    pub depth: [u8; LOCATIONS],
+    pub parent: [u16; LOCATIONS],
+    pub depth: [u16; LOCATIONS],
     pub reached: [u64; WORDS],
 }
 
 // The slots that are marked in a word, whose first place is location base, get the parent u and the depth d.
 fn enter(
-    parent: &mut [u8; LOCATIONS],
-    depth: &mut [u8; LOCATIONS],
+    parent: &mut [u16; LOCATIONS],
+    depth: &mut [u16; LOCATIONS],
     word: u64,
     base: usize,
-    u: u8,
-    d: u8,
+    u: u16,
+    d: u16,
 )
     requires { ⌜ Locations (inWord word base) ⌝ }
     requires { ⌜ Whole (now parent) (now depth) ⌝ }
@@ -53,24 +53,27 @@ fn enter(
 // One row: the fresh slots that are marked in it get the parent u and the depth d, and are fresh no more. Those of the range stay as they are.
 fn sweep(
     row: [u64; WORDS],
+    words: usize,
     block: Range,
     fresh: &mut [u64; WORDS],
-    parent: &mut [u8; LOCATIONS],
-    depth: &mut [u8; LOCATIONS],
-    u: u8,
-    d: u8,
+    parent: &mut [u16; LOCATIONS],
+    depth: &mut [u16; LOCATIONS],
+    u: u16,
+    d: u16,
 )
-    requires { ⌜ Ready (now fresh) (now parent) (now depth) ⌝ }
+    requires { ⌜ Ready words (now fresh) (now parent) (now depth) ⌝ }
     ensures { λ _.
-        ⌜ Swept (eqb u) (avoiding block (λ _. marked row)) d
+        ⌜ Swept words (eqb u) (avoiding block (λ _. marked row)) d
         (now (fresh .entry)) (now (parent .entry)) (now (depth .entry))
         (now (fresh .exit)) (now (parent .exit)) (now (depth .exit)) ⌝ }
 {
     let mut k: usize = 0;
-    while k < WORDS {
+    while k < words {
         let old = fresh[k];
-        let found = rows::leave_out(row[k] & old, k * 64, block);
-        if found != 0 {
+        let marked = row[k] & old;
+        // Most words have nothing to look for: the range is looked at in the others alone.
+        if marked != 0 {
+            let found = rows::leave_out(marked, k * 64, block);
             fresh[k] = old ^ found;
             enter(parent, depth, found, k * 64, u, d);
         }
@@ -83,16 +86,17 @@ fn sweep_word(
     links: &[[u64; WORDS]; LOCATIONS],
     word: u64,
     base: usize,
+    words: usize,
     block: Range,
     fresh: &mut [u64; WORDS],
-    parent: &mut [u8; LOCATIONS],
-    depth: &mut [u8; LOCATIONS],
-    d: u8,
+    parent: &mut [u16; LOCATIONS],
+    depth: &mut [u16; LOCATIONS],
+    d: u16,
 )
     requires { ⌜ Locations (inWord word base) ⌝ }
-    requires { ⌜ Ready (now fresh) (now parent) (now depth) ⌝ }
+    requires { ⌜ Ready words (now fresh) (now parent) (now depth) ⌝ }
     ensures { λ _.
-        ⌜ Swept (inWord word base) (avoiding block (linkedIn (now (links .entry)))) d
+        ⌜ Swept words (inWord word base) (avoiding block (linkedIn (now (links .entry)))) d
         (now (fresh .entry)) (now (parent .entry)) (now (depth .entry))
         (now (fresh .exit)) (now (parent .exit)) (now (depth .exit)) ⌝ }
 {
@@ -100,7 +104,7 @@ fn sweep_word(
     while w != 0 {
         let u = base + (u64::trailing_zeros(w) as usize);
         let row = links[u];
-        sweep(row, block, fresh, parent, depth, u as u8, d);
+        sweep(row, words, block, fresh, parent, depth, u as u16, d);
         w = w & (w - 1);
     }
 }
@@ -109,41 +113,43 @@ fn sweep_word(
 fn level(
     links: &[[u64; WORDS]; LOCATIONS],
     frontier: [u64; WORDS],
+    words: usize,
     block: Range,
     fresh: &mut [u64; WORDS],
-    parent: &mut [u8; LOCATIONS],
-    depth: &mut [u8; LOCATIONS],
-    d: u8,
+    parent: &mut [u16; LOCATIONS],
+    depth: &mut [u16; LOCATIONS],
+    d: u16,
 )
-    requires { ⌜ Locations (marked frontier) ⌝ }
-    requires { ⌜ Ready (now fresh) (now parent) (now depth) ⌝ }
+    requires { ⌜ Locations (marked frontier) × Narrow words frontier ⌝ }
+    requires { ⌜ Ready words (now fresh) (now parent) (now depth) ⌝ }
     ensures { λ _.
-        ⌜ Swept (marked frontier) (avoiding block (linkedIn (now (links .entry)))) d
+        ⌜ Swept words (marked frontier) (avoiding block (linkedIn (now (links .entry)))) d
         (now (fresh .entry)) (now (parent .entry)) (now (depth .entry))
         (now (fresh .exit)) (now (parent .exit)) (now (depth .exit)) ⌝ }
 {
     let mut i: usize = 0;
-    while i < WORDS {
+    while i < words {
         let word = frontier[i];
-        sweep_word(links, word, i * 64, block, fresh, parent, depth, d);
+        sweep_word(links, word, i * 64, words, block, fresh, parent, depth, d);
         i += 1;
     }
 }
 
-// The forest of the chains over the links through the held slots, but for those of a range. These are told by their numbers where they would
-// be entered, so `fresh` keeps their marks to the end.
-pub fn walk(links: [[u64; WORDS]; LOCATIONS], held: [u64; WORDS], block: Range) -> Forest
-    requires { ⌜ SlotsOnly held ⌝ }
+// The forest of the chains over the links through those of the slots 1 to n that are held, but for those of a range. These are told by their
+// numbers where they would be entered, so `fresh` keeps their marks to the end.
+pub fn walk(links: [[u64; WORDS]; LOCATIONS], held: [u64; WORDS], n: usize, block: Range) -> Forest
+    requires { ⌜ SlotsOnly n held ⌝ }
     ensures { λ r. ⌜ Walked (linkedIn links) (without block (heldIn held)) (marked (r .reached)) (r .parent) (r .depth) ⌝ }
 {
-    let mut parent = [0u8; LOCATIONS];
-    let mut depth = [0u8; LOCATIONS];
+    let words = rows::words_for(n);
+    let mut parent = [0u16; LOCATIONS];
+    let mut depth = [0u16; LOCATIONS];
     let mut fresh = held;
     let mut frontier = [0u64; WORDS];
     frontier[0] = 1;
-    let mut d: u8 = 0;
+    let mut d: u16 = 0;
     while d < DEEPEST {
-        if rows::none_marked(frontier) {
+        if rows::none_marked(frontier, words) {
             break;
         }
         let before = fresh;
@@ -151,15 +157,16 @@ pub fn walk(links: [[u64; WORDS]; LOCATIONS], held: [u64; WORDS], block: Range) 
         level(
             &links,
             frontier,
+            words,
             block,
             &mut fresh,
             &mut parent,
             &mut depth,
             d,
         );
-        frontier = rows::differ(before, fresh);
+        frontier = rows::differ(before, fresh, words);
     }
-    let mut reached = rows::differ(held, fresh);
+    let mut reached = rows::differ(held, fresh, words);
     reached[0] = reached[0] | 1;
     Forest {
         parent,

@@ -9,9 +9,10 @@ use lib.ListN.{length}
 use Rattle.lists.specs.Rules.{Judged, AllHold}
 use Rattle.lists.proofs.Tests.{eq-T}
 use Rattle.lists.proofs.Faults.{judge-test, judge-right, judge-none, judged-all, all-judged, Numbered}
+use Rattle.picture.specs.declared.Edition.{Edition}
 use Rattle.picture.specs.declared.Header.{Header}
-use Rattle.picture.specs.Layout.{Edition, editionOf, headerWidths, fieldIn, leastBytes, sizeOf}
-use Rattle.picture.specs.Picture.{Picture, headerOf, pictureOf}
+use Rattle.picture.specs.Layout.{editionOf, editionNumber, leastBytes, headerBytes, sizeOf}
+use Rattle.picture.specs.Picture.{Picture, headerIn, headerOf, pictureOf}
 use Rattle.picture.specs.Faults.{sizesRight, countsRight, endRight, bodyFaults, faultsWith, pictureFault}
 use Rattle.picture.specs.Rules.{rulesWith, rules}
 use Rattle.picture.proofs.Starts.{slots-length, rounded}
@@ -29,22 +30,23 @@ module _ (bs : List ℕ) where
   p = pictureOf bs
 
   pub picture-judged : Judged (rules bs) (pictureFault bs)
-  unfolding rules rulesWith pictureFault faultsWith bodyFaults headerOf pictureOf e h p
+  unfolding rules rulesWith pictureFault faultsWith bodyFaults headerOf headerIn pictureOf e h p
   picture-judged =
       judge-test _ _ (ltb (length bs) leastBytes) _ (λ z. absurd (omega arith)) (nltb→le (length bs) leastBytes) (λ t l. absurd (omega (arith, ltb→lt (length bs) leastBytes t)))
-      (judge-right _ _ (eqb (fieldIn bs (headerWidths e) 0 0) (e .number)) _ (λ z. absurd (omega arith)) (eqb→eq _ _) (eq-T _ _)
-      (judge-right _ _ (sizesRight e h) _ (λ z. absurd (omega arith)) (right-sizes e h) (sizes-right e h)
-      (judge-right _ _ (countsRight h) _ (λ z. absurd (omega arith)) (right-counts e h) (counts-right e h)
-      (judge-test _ _ (ltb (length bs) (sizeOf e h)) _ (λ z. absurd (omega arith)) (nltb→le (length bs) (sizeOf e h)) (λ t l. absurd (omega (arith, ltb→lt (length bs) (sizeOf e h) t)))
-      (lists-judged h p (slots-length e h bs) _ _
-      (judge-right _ _ (endRight e h bs) _ (λ z. absurd (omega arith)) (right-ends e h bs (rounded h .room)) (ends-right e h bs (rounded h .room)) judge-none))))))
+      (judge-right _ _ (eqb (editionNumber bs) (e .number)) _ (λ z. absurd (omega arith)) (eqb→eq _ _) (eq-T _ _)
+      (judge-test _ _ (ltb (length bs) (headerBytes e)) _ (λ z. absurd (omega arith)) (nltb→le (length bs) (headerBytes e)) (λ t l. absurd (omega (arith, ltb→lt (length bs) (headerBytes e) t)))
+      (judge-right _ _ (sizesRight h) _ (λ z. absurd (omega arith)) (right-sizes h) (sizes-right h)
+      (judge-right _ _ (countsRight h) _ (λ z. absurd (omega arith)) (right-counts h) (counts-right h)
+      (judge-test _ _ (ltb (length bs) (sizeOf h)) _ (λ z. absurd (omega arith)) (nltb→le (length bs) (sizeOf h)) (λ t l. absurd (omega (arith, ltb→lt (length bs) (sizeOf h) t)))
+      (lists-judged h p (slots-length h bs) _ _
+      (judge-right _ _ (endRight h bs) _ (λ z. absurd (omega arith)) (right-ends h bs (rounded h .room)) (ends-right h bs (rounded h .room)) judge-none)))))))
 
   -- no number of the layout is 0
   pub numbered : Numbered (rules bs)
   unfolding rules rulesWith
   numbered = (
     λ z. absurd (omega arith),
-    (λ z. absurd (omega arith), (λ z. absurd (omega arith), (λ z. absurd (omega arith), (λ z. absurd (omega arith), lists-numbered (headerOf bs) (pictureOf bs) _ (λ z. absurd (omega arith), tt))))),
+    (λ z. absurd (omega arith), (λ z. absurd (omega arith), (λ z. absurd (omega arith), (λ z. absurd (omega arith), (λ z. absurd (omega arith), lists-numbered (headerOf bs) (pictureOf bs) _ (λ z. absurd (omega arith), tt)))))),
   )
 
   -- accepted exactly where every rule of the layout holds

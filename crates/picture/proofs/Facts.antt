@@ -4,26 +4,31 @@ use mathlib.Core.List.{List}
 use Prim.Native.Nat.{ℕ}
 use lib.ListN.{length}
 use Rattle.picture.specs.declared.Header.{Header}
-use Rattle.picture.specs.Layout.{edition1}
-use Rattle.picture.specs.Picture.{Picture, pictureOf, pictureWith}
+use Rattle.picture.specs.Picture.{Picture, headerIn, headerOf, pictureOf, pictureWith}
 use Rattle.picture.specs.Rules.{Sizes, Counts, Links}
-use Rattle.picture.specs.Inner.{Read, Limited}
+use Rattle.picture.specs.Inner.{Read, Known, Limited}
+use Rattle.picture.proofs.Editions.{known-for}
 use Rattle.picture.proofs.Starts.{slots-length, endpoints-length, links-length, services-length}
 use Rattle.picture.proofs.Kept.{ServiceLinks}
 use Rattle.picture.proofs.Accepted.{accepted-kept}
 
 module _ (bs : List ℕ) (h : Header) (r : Read bs h) where
   -- the fields that are found with this header are the picture's
-  pub read-picture : pictureWith edition1 h bs ≡ pictureOf bs
+  pub read-picture : pictureWith h bs ≡ pictureOf bs
   unfolding pictureOf
-  read-picture = ap (λ (k : Header). pictureWith edition1 k bs) (r .header)
+  read-picture = ap (λ (k : Header). pictureWith k bs) (r .header)
+
+  -- its edition is one of the two
+  pub read-known : Known (h .edition)
+  unfolding headerOf headerIn
+  read-known = subst (λ (k : Header). Known (k .edition)) (sym (r .header)) (known-for _)
 
   -- its numbers keep their limits
-  pub read-sizes : Sizes edition1 h
-  read-sizes = subst (Sizes edition1) (sym (r .header)) (accepted-kept bs (r .accepted) .sizes)
+  pub read-sizes : Sizes h
+  read-sizes = subst (Sizes) (sym (r .header)) (accepted-kept bs (r .accepted) .sizes)
 
   pub read-limited : Limited h
-  read-limited = record { slots = read-sizes .slots-most; counts = subst Counts (sym (r .header)) (accepted-kept bs (r .accepted) .counts) }
+  read-limited = record { known = read-known; slots = read-sizes .slots-most; counts = subst Counts (sym (r .header)) (accepted-kept bs (r .accepted) .counts) }
 
   -- and its links name what is there
   pub read-links : Links (h .slots) (pictureOf bs)
@@ -34,13 +39,13 @@ module _ (bs : List ℕ) (h : Header) (r : Read bs h) where
 
   -- the lists are as long as it says
   pub read-slots-length : length (pictureOf bs .slots) ≡ h .slots
-  read-slots-length = ap (λ (p : Picture). length (p .slots)) (sym read-picture) ∙ slots-length edition1 h bs
+  read-slots-length = ap (λ (p : Picture). length (p .slots)) (sym read-picture) ∙ slots-length h bs
 
   pub read-endpoints-length : length (pictureOf bs .endpoints) ≡ h .endpoints
-  read-endpoints-length = ap (λ (p : Picture). length (p .endpoints)) (sym read-picture) ∙ endpoints-length edition1 h bs
+  read-endpoints-length = ap (λ (p : Picture). length (p .endpoints)) (sym read-picture) ∙ endpoints-length h bs
 
   pub read-links-length : length (pictureOf bs .links) ≡ h .links
-  read-links-length = ap (λ (p : Picture). length (p .links)) (sym read-picture) ∙ links-length edition1 h bs
+  read-links-length = ap (λ (p : Picture). length (p .links)) (sym read-picture) ∙ links-length h bs
 
   pub read-services-length : length (pictureOf bs .serviceLinks) ≡ h .«service_links»
-  read-services-length = ap (λ (p : Picture). length (p .serviceLinks)) (sym read-picture) ∙ services-length edition1 h bs
+  read-services-length = ap (λ (p : Picture). length (p .serviceLinks)) (sym read-picture) ∙ services-length h bs

@@ -9,9 +9,10 @@ use lib.ListN.{getD, take}
 use Rattle.bits.specs.Bits.{fieldAt}
 use Rattle.bits.proofs.Reading.{fieldAt-part}
 use Rattle.lists.specs.Lists.{sum}
+use Rattle.picture.specs.declared.Edition.{Edition}
 use Rattle.picture.specs.declared.Header.{Header}
 use Rattle.picture.specs.declared.Link.{Link}
-use Rattle.picture.specs.Layout.{edition1, headerWidths, slotWidths, fieldIn}
+use Rattle.picture.specs.Layout.{editionBits, editionNumber, headerWidths, slotWidths, fieldIn, slotsAt}
 use Rattle.picture.specs.Picture.{Slot, headerIn, slotAt, linkAt, rows}
 use Rattle.picture.proofs.Starts.{rows-same}
 
@@ -34,16 +35,16 @@ module _ (m : ℕ) (bs : List ℕ) where
   unfolding fieldIn
   field-front ws p h j = fieldAt-part bs 0 m _ _ (omega (arith, field-within ws j)) ∙ ap (λ (q : ℕ). fieldAt bs q (getD ws j 0)) (omega arith)
 
-  -- the edition, and the header
-  pub edition-front : 7 ≤ m → fieldIn (take m bs) (headerWidths edition1) 0 0 ≡ fieldIn bs (headerWidths edition1) 0 0
-  unfolding headerWidths sum
-  edition-front h = field-front (headerWidths edition1) 0 (omega arith) 0
+  -- the number of the edition, and the header by an edition
+  pub edition-front : 1 ≤ m → editionNumber (take m bs) ≡ editionNumber bs
+  unfolding editionNumber
+  edition-front h = fieldAt-part bs 0 m 0 editionBits (omega arith)
 
-  pub header-front : 7 ≤ m → headerIn edition1 (take m bs) ≡ headerIn edition1 bs
-  unfolding headerIn headerWidths sum
-  header-front h =
-      let said : (ℕ → ℕ) → Header = λ f. record { «block_size» = f 1; slots = f 2; «near_limit» = f 3; endpoints = f 4; links = f 5; «service_links» = f 6 } in
-      ap said (fun-ext (field-front (headerWidths edition1) 0 (omega arith)))
+  pub header-front : (e : Edition) → slotsAt e ≤ m * 8 → headerIn e (take m bs) ≡ headerIn e bs
+  unfolding headerIn slotsAt
+  header-front e h =
+      let said : (ℕ → ℕ) → Header = λ f. record { edition = e; «block_size» = f 1; slots = f 2; «near_limit» = f 3; endpoints = f 4; links = f 5; «service_links» = f 6 } in
+      ap said (fun-ext (field-front (headerWidths e) 0 (omega arith)))
 
   -- the slots, and the links of either kind
   pub slots-front : (p k : ℕ) → p + k * sum slotWidths ≤ m * 8 → rows (slotAt (take m bs)) p (sum slotWidths) k ≡ rows (slotAt bs) p (sum slotWidths) k

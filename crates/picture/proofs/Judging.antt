@@ -17,22 +17,22 @@ use Rattle.lists.proofs.Faults.{on-zero, on-told, judge-test, judge-each, judge
 use Rattle.lists.proofs.Rules.{judged-then, numbered-both, each-judged, each-numbered}
 use Rattle.picture.specs.declared.Header.{Header}
 use Rattle.picture.specs.declared.Link.{Link}
-use Rattle.picture.specs.Layout.{Edition, edition1, blocksMax, endpointsMax, linksMax, stateMax, endAt, sizeOf}
+use Rattle.picture.specs.Layout.{blocksMax, endpointsMax, linksMax, stateMax, endAt, sizeOf}
 use Rattle.picture.specs.Picture.{Picture, slotOf}
 use Rattle.picture.specs.Faults.{sizesRight, countsRight, stateFault, linkFault, serviceLinkFault, listFaults, endRight}
 use Rattle.picture.specs.Rules.{Sizes, Counts, States, Ends, noLink, serviceLinkRules, listRules}
-use Rattle.picture.specs.Inner.{Limited}
+use Rattle.picture.specs.Inner.{Known, Limited}
 
 -- ---- the header
 
-module _ (e : Edition) (h : Header) where
-  pub right-sizes : T (sizesRight e h) → Sizes e h
+module _ (h : Header) where
+  pub right-sizes : T (sizesRight h) → Sizes h
   unfolding sizesRight
   right-sizes t =
       let t1 = and-T (leb 1 (h .«block_size»)) _ t in
-      let t2 = and-T (leb (h .«block_size») (e .blockSizeMax)) _ (t1 .1) in
+      let t2 = and-T (leb (h .«block_size») (h .edition .«block_size_max»)) _ (t1 .1) in
       let t3 = and-T (leb 1 (h .slots)) _ (t2 .1) in
-      let t4 = and-T (leb (h .slots) (e .slotsMax)) _ (t3 .1) in
+      let t4 = and-T (leb (h .slots) (h .edition .«slots_max»)) _ (t3 .1) in
       let t5 = and-T (eqb (h .slots % h .«block_size») 0) (leb (h .slots / h .«block_size») blocksMax) (t4 .1) in
       record {
         size-some = leb→le _ _ (t1 .0);
@@ -43,7 +43,7 @@ module _ (e : Edition) (h : Header) where
         blocks-most = leb→le _ _ (t5 .1);
       }
 
-  pub sizes-right : Sizes e h → T (sizesRight e h)
+  pub sizes-right : Sizes h → T (sizesRight h)
   unfolding sizesRight
   sizes-right s =
       rw (le-leb _ _ (s .size-some), le-leb _ _ (s .size-most), le-leb _ _ (s .slots-some), le-leb _ _ (s .slots-most), eq-eqb _ _ (s .multiple), le-leb _ _ (s .blocks-most)) tt
@@ -59,8 +59,8 @@ module _ (e : Edition) (h : Header) where
   unfolding countsRight
   counts-right s = rw (le-leb _ _ (s .endpoints-most), le-leb _ _ (s .links-most), le-leb _ _ (s .service-links-most)) tt
 
-pub right-limited : (h : Header) → T (sizesRight edition1 h) → T (countsRight h) → Limited h
-right-limited h s c = record { slots = right-sizes edition1 h s .slots-most; counts = right-counts edition1 h c }
+pub right-limited : (h : Header) → Known (h .edition) → T (sizesRight h) → T (countsRight h) → Limited h
+right-limited h k s c = record { known = k; slots = right-sizes h s .slots-most; counts = right-counts h c }
 
 -- ---- the lists
 
@@ -151,18 +151,18 @@ lists-numbered h p rs m = (
 
 -- ---- the end
 
-module _ (e : Edition) (h : Header) (bs : List ℕ) (room : endAt e h ≤ sizeOf e h * 8) where
-  pub right-ends : T (endRight e h bs) → Ends e h bs
+module _ (h : Header) (bs : List ℕ) (room : endAt h ≤ sizeOf h * 8) where
+  pub right-ends : T (endRight h bs) → Ends h bs
   unfolding endRight
   right-ends t =
-      let fill : ℕ = sizeOf e h * 8 - endAt e h in
-      let u = and-T (eqb (fieldAt bs (endAt e h) fill) 0) (eqb (length bs) (sizeOf e h)) t in
+      let fill : ℕ = sizeOf h * 8 - endAt h in
+      let u = and-T (eqb (fieldAt bs (endAt h) fill) 0) (eqb (length bs) (sizeOf h)) t in
       record {
-        fill = λ i l m. ap (bitAt bs) (omega arith) ∙ fieldAt-zeros bs (endAt e h) fill (eqb→eq _ _ (u .0)) (i - endAt e h) (omega arith);
-        end = eqb→eq (length bs) (sizeOf e h) (u .1);
+        fill = λ i l m. ap (bitAt bs) (omega arith) ∙ fieldAt-zeros bs (endAt h) fill (eqb→eq _ _ (u .0)) (i - endAt h) (omega arith);
+        end = eqb→eq (length bs) (sizeOf h) (u .1);
       }
 
-  pub ends-right : Ends e h bs → T (endRight e h bs)
+  pub ends-right : Ends h bs → T (endRight h bs)
   unfolding endRight
   ends-right s =
-      rw (eq-eqb _ _ (zeros-fieldAt bs (endAt e h) (sizeOf e h * 8 - endAt e h) (λ i l. s .fill (endAt e h + i) (omega arith) (omega arith))), eq-eqb _ _ (s .end)) tt
+      rw (eq-eqb _ _ (zeros-fieldAt bs (endAt h) (sizeOf h * 8 - endAt h) (λ i l. s .fill (endAt h + i) (omega arith) (omega arith))), eq-eqb _ _ (s .end)) tt

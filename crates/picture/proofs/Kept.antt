@@ -6,8 +6,8 @@ use lib.ListN.{length, getD}
 use Rattle.lists.specs.Rules.{Rule, eachRules, AllHold, more, none}
 use Rattle.lists.proofs.Rules.{hold-one, hold-left, hold-right, hold-both, hold-each, each-hold}
 use Rattle.picture.specs.declared.Link.{Link}
-use Rattle.picture.specs.Layout.{editionOf, headerWidths, fieldIn, leastBytes, sizeOf}
-use Rattle.picture.specs.Picture.{Picture, headerOf, pictureOf}
+use Rattle.picture.specs.Layout.{editionOf, editionNumber, leastBytes, headerBytes, sizeOf}
+use Rattle.picture.specs.Picture.{Picture, headerIn, headerOf, pictureOf}
 use Rattle.picture.specs.Rules.{Sizes, Counts, States, noLink, Links, serviceLinkRules, Ends, listRules, rulesWith, rules}
 
 -- what the service links keep: the rules of each, by name
@@ -44,23 +44,24 @@ module _ (n d : ℕ) (p : Picture) (rs : List Rule) where
 -- the rules in their order
 pub record Kept (bs : List ℕ) : Type 0 where
   pub header : leastBytes ≤ length bs
-  pub edition : fieldIn bs (headerWidths (editionOf bs)) 0 0 ≡ editionOf bs .number
-  pub sizes : Sizes (editionOf bs) (headerOf bs)
+  pub edition : editionNumber bs ≡ editionOf bs .number
+  pub whole : headerBytes (editionOf bs) ≤ length bs
+  pub sizes : Sizes (headerOf bs)
   pub counts : Counts (headerOf bs)
-  pub long : sizeOf (editionOf bs) (headerOf bs) ≤ length bs
+  pub long : sizeOf (headerOf bs) ≤ length bs
   pub states : States (headerOf bs .slots) (pictureOf bs)
   pub links : Links (headerOf bs .slots) (pictureOf bs)
   pub serviceLinks : ServiceLinks (headerOf bs .slots) (headerOf bs .endpoints) (pictureOf bs)
-  pub ends : Ends (editionOf bs) (headerOf bs) bs
+  pub ends : Ends (headerOf bs) bs
 
 pub holds-kept : (bs : List ℕ) → AllHold (rules bs) → Kept bs
-unfolding rules rulesWith listRules
-holds-kept bs (more a (more b (more c (more d (more e (more f (more g r))))))) =
+unfolding rules rulesWith listRules headerOf headerIn
+holds-kept bs (more a (more b (more w (more c (more d (more e (more f (more g r)))))))) =
     let s = holds-services _ _ (pictureOf bs) _ r in
-    record { header = a; edition = b; sizes = c; counts = d; long = e; states = f; links = g; serviceLinks = s .0; ends = hold-one (s .1) }
+    record { header = a; edition = b; whole = w; sizes = c; counts = d; long = e; states = f; links = g; serviceLinks = s .0; ends = hold-one (s .1) }
 
 pub kept-holds : {bs : List ℕ} → Kept bs → AllHold (rules bs)
-unfolding rules rulesWith listRules
+unfolding rules rulesWith listRules headerOf headerIn
 kept-holds k =
-    more (k .header) (more (k .edition) (more (k .sizes) (more (k .counts) (more (k .long) (more (k .states) (more (k .links)
-    (services-hold _ _ _ _ (k .serviceLinks) (more (k .ends) none))))))))
+    more (k .header) (more (k .edition) (more (k .whole) (more (k .sizes) (more (k .counts) (more (k .long) (more (k .states) (more (k .links)
+    (services-hold _ _ _ _ (k .serviceLinks) (more (k .ends) none)))))))))

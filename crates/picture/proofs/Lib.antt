@@ -1,4 +1,5 @@
 -- Laws of the picture's layout.
+pub mod Editions
 pub mod Starts
 pub mod Fields
 pub mod Finding

@@ -4,7 +4,7 @@ use mathlib.Core.Bool.{false}
 use mathlib.Core.List.{List, [], _∷_}
 use Prim.Native.Nat.{ℕ, zero, suc, _+_, _-_, _*_, _/_, _%_, _^_, _≤_, _<_}
 use native.Mathlib.Omega.{arith}
-use native.Mathlib.Nat.{add-zero, zero-add, not-suc-le-zero}
+use native.Mathlib.Nat.{add-zero, zero-add, not-suc-le-zero, mul-le-mul-right}
 use native.Mathlib.Numerals.{add-one}
 use lib.ListN.{length, getD, length-map, List·getD-eq-default}
 use lib.Pow.{high, low}
@@ -12,12 +12,14 @@ use Rattle.bits.specs.Bits.{fieldAt}
 use Rattle.bits.proofs.Reading.{fieldAt-lt, fieldAt-join}
 use Rattle.lists.specs.Lists.{range, item, sum}
 use Rattle.lists.proofs.Ranges.{length-range, getD-map-range, map-range-same}
+use Rattle.picture.specs.declared.Edition.{Edition}
 use Rattle.picture.specs.declared.Header.{Header}
 use Rattle.picture.specs.declared.Link.{Link}
-use Rattle.picture.specs.Layout.{Edition, edition1, slotWidths, endpointWidths, linkWidths, serviceLinkWidths, headerWidths, fieldIn, slotsAt, endpointsAt, linksAt, serviceLinksAt, endAt, sizeOf}
+use Rattle.picture.specs.Layout.{edition2, endpointsMax, linksMax, pictureMax, slotWidths, endpointWidths, linkWidths, serviceLinkWidths, headerWidths, fieldIn, slotsAt, endpointsAt, linksAt, serviceLinksAt, endAt, sizeOf}
 use Rattle.picture.specs.Picture.{Picture, slotAt, endpointAt, linkAt, rows, pictureWith, slotOf, endpointOf}
 use Rattle.picture.specs.Rules.{noLink}
 use Rattle.picture.specs.Inner.{Limited}
+use Rattle.picture.proofs.Editions.{widths}
 
 -- ---- the first two fields of a run of fields
 
@@ -72,55 +74,81 @@ pub slot-past : (p : Picture) (i : ℕ) → length (p .slots) ≤ i → slotOf p
 unfolding slotOf item
 slot-past p i h = List·getD-eq-default (p .slots) (record { state = 2; near = false }) {n = i} h
 
-module _ (e : Edition) (h : Header) (bs : List ℕ) where
-  pub slot-row : (v : ℕ) → 1 ≤ v → v ≤ h .slots → slotOf (pictureWith e h bs) v ≡ slotAt bs (slotsAt e + (v - 1) * sum slotWidths)
+module _ (h : Header) (bs : List ℕ) where
+  abbrev e : Edition
+  e = h .edition
+
+  pub slot-row : (v : ℕ) → 1 ≤ v → v ≤ h .slots → slotOf (pictureWith h bs) v ≡ slotAt bs (slotsAt e + (v - 1) * sum slotWidths)
   unfolding slotOf pictureWith
   slot-row v l m = item-row (slotAt bs) _ (slotsAt e) (sum slotWidths) (h .slots) v l m
 
-  pub endpoint-row : (c : ℕ) → 1 ≤ c → c ≤ h .endpoints → endpointOf (pictureWith e h bs) c ≡ endpointAt bs (endpointsAt e h + (c - 1) * sum endpointWidths)
+  pub endpoint-row : (c : ℕ) → 1 ≤ c → c ≤ h .endpoints → endpointOf (pictureWith h bs) c ≡ endpointAt bs (endpointsAt h + (c - 1) * sum endpointWidths)
   unfolding endpointOf pictureWith
-  endpoint-row c l m = item-row (endpointAt bs) _ (endpointsAt e h) (sum endpointWidths) (h .endpoints) c l m
+  endpoint-row c l m = item-row (endpointAt bs) _ (endpointsAt h) (sum endpointWidths) (h .endpoints) c l m
 
-  pub link-row : (i : ℕ) → i < h .links → getD (pictureWith e h bs .links) i noLink ≡ linkAt (linkWidths e) bs (linksAt e h + i * sum (linkWidths e))
+  pub link-row : (i : ℕ) → i < h .links → getD (pictureWith h bs .links) i noLink ≡ linkAt (linkWidths e) bs (linksAt h + i * sum (linkWidths e))
   unfolding pictureWith
-  link-row i l = row-at (linkAt (linkWidths e) bs) noLink (linksAt e h) (sum (linkWidths e)) (h .links) i l
+  link-row i l = row-at (linkAt (linkWidths e) bs) noLink (linksAt h) (sum (linkWidths e)) (h .links) i l
 
-  pub service-row : (i : ℕ) → i < h .«service_links» → getD (pictureWith e h bs .serviceLinks) i noLink ≡ linkAt (serviceLinkWidths e) bs (serviceLinksAt e h + i * sum (serviceLinkWidths e))
+  pub service-row : (i : ℕ) → i < h .«service_links» → getD (pictureWith h bs .serviceLinks) i noLink ≡ linkAt (serviceLinkWidths e) bs (serviceLinksAt h + i * sum (serviceLinkWidths e))
   unfolding pictureWith
-  service-row i l = row-at (linkAt (serviceLinkWidths e) bs) noLink (serviceLinksAt e h) (sum (serviceLinkWidths e)) (h .«service_links») i l
+  service-row i l = row-at (linkAt (serviceLinkWidths e) bs) noLink (serviceLinksAt h) (sum (serviceLinkWidths e)) (h .«service_links») i l
 
-  pub slots-length : length (pictureWith e h bs .slots) ≡ h .slots
+  pub slots-length : length (pictureWith h bs .slots) ≡ h .slots
   unfolding pictureWith
   slots-length = length-rows (slotAt bs) (slotsAt e) (sum slotWidths) (h .slots)
 
-  pub endpoints-length : length (pictureWith e h bs .endpoints) ≡ h .endpoints
+  pub endpoints-length : length (pictureWith h bs .endpoints) ≡ h .endpoints
   unfolding pictureWith
-  endpoints-length = length-rows (endpointAt bs) (endpointsAt e h) (sum endpointWidths) (h .endpoints)
+  endpoints-length = length-rows (endpointAt bs) (endpointsAt h) (sum endpointWidths) (h .endpoints)
 
-  pub links-length : length (pictureWith e h bs .links) ≡ h .links
+  pub links-length : length (pictureWith h bs .links) ≡ h .links
   unfolding pictureWith
-  links-length = length-rows (linkAt (linkWidths e) bs) (linksAt e h) (sum (linkWidths e)) (h .links)
+  links-length = length-rows (linkAt (linkWidths e) bs) (linksAt h) (sum (linkWidths e)) (h .links)
 
-  pub services-length : length (pictureWith e h bs .serviceLinks) ≡ h .«service_links»
+  pub services-length : length (pictureWith h bs .serviceLinks) ≡ h .«service_links»
   unfolding pictureWith
-  services-length = length-rows (linkAt (serviceLinkWidths e) bs) (serviceLinksAt e h) (sum (serviceLinkWidths e)) (h .«service_links»)
+  services-length = length-rows (linkAt (serviceLinkWidths e) bs) (serviceLinksAt h) (sum (serviceLinkWidths e)) (h .«service_links»)
 
 -- ---- places are small numbers, in their order
 
+-- what they are sums of: links of either kind take no more than the most of them do in the widest edition
+pub record Few (h : Header) : Type 0 where
+  pub bits : h .edition .«location_bits» ≤ edition2 .«location_bits»
+  pub start : slotsAt (h .edition) ≤ slotsAt edition2
+  pub slots : h .slots ≤ edition2 .«slots_max»
+  pub endpoints : h .endpoints ≤ endpointsMax
+  pub links : h .links * sum (linkWidths (h .edition)) ≤ linksMax * sum (linkWidths edition2)
+  pub services : h .«service_links» * sum (serviceLinkWidths (h .edition)) ≤ linksMax * sum (serviceLinkWidths edition2)
+
+pub few : (h : Header) → Limited h → Few h
+unfolding slotsAt headerWidths linkWidths serviceLinkWidths sum
+few h l =
+    let w = widths (l .known) in
+    let e = h .edition in
+    record {
+      bits = w .bits-most;
+      start = omega (arith, w .bits-most);
+      slots = omega (arith, w .slots-most, l .slots);
+      endpoints = l .counts .endpoints-most;
+      links = omega (arith, w .bits-most, mul-le-mul-right (sum (linkWidths e)) (l .counts .links-most));
+      services = omega (arith, w .bits-most, mul-le-mul-right (sum (serviceLinkWidths e)) (l .counts .service-links-most));
+    }
+
 pub record Ordered (h : Header) : Type 0 where
-  pub endpoints : endpointsAt edition1 h ≤ linksAt edition1 h
-  pub links : linksAt edition1 h ≤ serviceLinksAt edition1 h
-  pub services : serviceLinksAt edition1 h ≤ endAt edition1 h
-  pub small : endAt edition1 h < 2 ^ 20
+  pub endpoints : endpointsAt h ≤ linksAt h
+  pub links : linksAt h ≤ serviceLinksAt h
+  pub services : serviceLinksAt h ≤ endAt h
+  pub most : endAt h + 7 < 8 * (pictureMax + 1)
 
 pub ordered : (h : Header) → Limited h → Ordered h
 unfolding endpointsAt linksAt serviceLinksAt endAt slotsAt headerWidths slotWidths endpointWidths linkWidths serviceLinkWidths sum
-ordered h l = record { endpoints = omega arith; links = omega arith; services = omega arith; small = omega (arith, l .counts) }
+ordered h l = record { endpoints = omega arith; links = omega arith; services = omega arith; most = omega (arith, few h l) }
 
 -- the size in bytes has room for every field, and for fewer than eight fill bits
 pub record Rounded (h : Header) : Type 0 where
-  pub room : endAt edition1 h ≤ sizeOf edition1 h * 8
-  pub tight : sizeOf edition1 h * 8 ≤ endAt edition1 h + 7
+  pub room : endAt h ≤ sizeOf h * 8
+  pub tight : sizeOf h * 8 ≤ endAt h + 7
 
 pub rounded : (h : Header) → Rounded h
 unfolding sizeOf

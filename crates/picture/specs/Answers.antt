@@ -1,10 +1,11 @@
 -- What reading answers, and document 01's numbers for each case of it. Assumes nothing.
 use mathlib.Core.List.{List, [], _∷_}
 use Prim.Native.Nat.{ℕ, zero, suc}
+use Rattle.picture.specs.declared.Edition.{Edition}
 use Rattle.picture.specs.declared.Header.{Header}
 use Rattle.picture.specs.declared.Reading.{Reading}
 use Rattle.picture.specs.declared.Reading.the-variants.{Accepted, Refused}
-use Rattle.picture.specs.Layout.{Edition, editionOf}
+use Rattle.picture.specs.Layout.{editionOf}
 use Rattle.picture.specs.Picture.{headerIn}
 use Rattle.picture.specs.Faults.{faultIn}
 
@@ -21,9 +22,9 @@ readingIn e bs = readingOf (faultIn e bs) (headerIn e bs)
 unfoldable pub reading : List ℕ → Reading
 reading bs = readingIn (editionOf bs) bs
 
--- β, n, κ, D, L, S
+-- the edition's number, β, n, κ, D, L, S
 unfoldable pub headerValues : Header → List ℕ
-headerValues h = h .«block_size» ∷ h .slots ∷ h .«near_limit» ∷ h .endpoints ∷ h .links ∷ h .«service_links» ∷ []
+headerValues h = h .edition .number ∷ h .«block_size» ∷ h .slots ∷ h .«near_limit» ∷ h .endpoints ∷ h .links ∷ h .«service_links» ∷ []
 
 -- accepted is 0, with the header's numbers; a refusal gives its number and nothing else
 unfoldable pub readingNumbers : Reading → List ℕ

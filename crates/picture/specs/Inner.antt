@@ -2,20 +2,27 @@
 use mathlib.Core.List.{List}
 use mathlib.Core.Path.{_≡_}
 use Prim.Native.Nat.{ℕ, _≤_}
+use Rattle.picture.specs.declared.Edition.{Edition}
 use Rattle.picture.specs.declared.Header.{Header}
 use Rattle.picture.specs.declared.Places.{Places}
-use Rattle.picture.specs.Layout.{Edition, edition1, endpointsAt, linksAt, serviceLinksAt, endAt}
+use Rattle.picture.specs.Layout.{edition1, edition2, endpointsAt, linksAt, serviceLinksAt, endAt}
 use Rattle.picture.specs.Picture.{headerOf}
 use Rattle.picture.specs.Faults.{pictureFault}
 use Rattle.picture.specs.Rules.{Counts}
 
 -- where the parts after the slots start, and where the last field ends
-unfoldable pub placesOf : Edition → Header → Places
-placesOf e h = record { endpoints = endpointsAt e h; links = linksAt e h; «service_links» = serviceLinksAt e h; end = endAt e h }
+unfoldable pub placesOf : Header → Places
+placesOf h = record { endpoints = endpointsAt h; links = linksAt h; «service_links» = serviceLinksAt h; end = endAt h }
 
--- the counts keep their limits, so that no place in the bytes is out of a number's range
+-- an edition is one of the two
+pub data Known : Edition → Type 0 where
+  first : Known edition1
+  second : Known edition2
+
+-- the edition is known and the counts keep their limits, so that no place in the bytes is out of a number's range
 pub record Limited (h : Header) : Type 0 where
-  pub slots : h .slots ≤ edition1 .slotsMax
+  pub known : Known (h .edition)
+  pub slots : h .slots ≤ h .edition .«slots_max»
   pub counts : Counts h
 
 -- the bytes are accepted, and the header is theirs: what the functions on an accepted picture rely on

@@ -1,37 +1,51 @@
 -- The layout of a picture: the widths of its fields in their order, where each part starts, and its limits. Assumes nothing.
+use mathlib.Core.Bool.{cond}
 use mathlib.Core.List.{List, [], _∷_}
 use Prim.Native.Nat.{ℕ, _+_, _*_, _/_}
+use lib.Dec.{eqb}
 use lib.ListN.{getD, take}
 use Rattle.bits.specs.Bits.{fieldAt}
 use Rattle.lists.specs.Lists.{sum}
+use Rattle.picture.specs.declared.Edition.{Edition}
 use Rattle.picture.specs.declared.Header.{Header}
 
--- an edition: its number; the widths of n, of κ and of a location; the largest β and the largest n
-pub record Edition : Type 0 where
-  pub number : ℕ
-  pub slotsBits : ℕ
-  pub nearLimitBits : ℕ
-  pub locationBits : ℕ
-  pub blockSizeMax : ℕ
-  pub slotsMax : ℕ
+-- ---- editions: the number; the width of n, of κ and of a location; the largest β and the largest n
 
--- edition 1 with blocks of at most m slots
+-- "β may be 1 to 15" (02, C-18)
+abbrev pub blockSizeMax : ℕ
+blockSizeMax = 15
+
+-- edition 1, with blocks of at most m slots
 abbrev pub edition1UpTo : ℕ → Edition
-edition1UpTo m = record { number = 1; slotsBits = 8; nearLimitBits = 8; locationBits = 8; blockSizeMax = m; slotsMax = 240 }
+edition1UpTo m = record { number = 1; «location_bits» = 8; «block_size_max» = m; «slots_max» = 240 }
 
--- edition 1: "β may be 1 to 15" (02, C-18)
 abbrev pub edition1 : Edition
-edition1 = edition1UpTo 15
+edition1 = edition1UpTo blockSizeMax
 
--- the edition that the bytes are read by: there is one. A second one is told here, by the first field
+-- edition 2 (02, C-21: "Location numbers beyond a byte")
+abbrev pub edition2 : Edition
+edition2 = record { number = 2; «location_bits» = 12; «block_size_max» = blockSizeMax; «slots_max» = 320 }
+
+-- the edition of this number. There are two, and what says another number is judged by the first, and refused
+unfoldable pub editionFor : ℕ → Edition
+editionFor k = cond (eqb k 2) edition2 edition1
+
+-- the number of the edition that bytes say, in their first field
+abbrev pub editionBits : ℕ
+editionBits = 4
+
+unfoldable pub editionNumber : List ℕ → ℕ
+editionNumber bs = fieldAt bs 0 editionBits
+
+-- the edition by which bytes are read: their own
 abbrev pub editionOf : List ℕ → Edition
-editionOf bs = edition1
+editionOf bs = editionFor (editionNumber bs)
 
 -- ---- widths, in the order of the fields
 
 -- header: edition, β, n, κ, D, L, S
 unfoldable pub headerWidths : Edition → List ℕ
-headerWidths e = 4 ∷ 4 ∷ e .slotsBits ∷ e .nearLimitBits ∷ 8 ∷ 12 ∷ 12 ∷ []
+headerWidths e = editionBits ∷ 4 ∷ e .«location_bits» ∷ e .«location_bits» ∷ 8 ∷ 12 ∷ 12 ∷ []
 
 -- a slot: state, near
 abbrev pub stateBits : ℕ
@@ -46,11 +60,11 @@ endpointWidths = 16 ∷ 1 ∷ []
 
 -- a link: from, to
 unfoldable pub linkWidths : Edition → List ℕ
-linkWidths e = e .locationBits ∷ e .locationBits ∷ []
+linkWidths e = e .«location_bits» ∷ e .«location_bits» ∷ []
 
 -- a service link (01: serving link): location, endpoint
 unfoldable pub serviceLinkWidths : Edition → List ℕ
-serviceLinkWidths e = e .locationBits ∷ 8 ∷ []
+serviceLinkWidths e = e .«location_bits» ∷ 8 ∷ []
 
 -- field k of the fields with these widths that start at bit p, without gaps
 unfoldable pub fieldIn : List ℕ → List ℕ → ℕ → ℕ → ℕ
@@ -70,9 +84,9 @@ endpointsMax = 200
 abbrev pub linksMax : ℕ
 linksMax = 2000
 
--- the longest picture, in bytes
+-- the longest picture, in bytes: one of edition 2
 abbrev pub pictureMax : ℕ
-pictureMax = 8522
+pictureMax = 11553
 
 -- a state is 0 (held), 1 (recoverable) or 2 (freed)
 abbrev pub stateMax : ℕ
@@ -92,22 +106,26 @@ leastBytes = 7
 unfoldable pub slotsAt : Edition → ℕ
 slotsAt e = sum (headerWidths e)
 
+-- the header in bytes: whole ones in both editions
+unfoldable pub headerBytes : Edition → ℕ
+headerBytes e = slotsAt e / 8
+
 -- then the endpoints
-unfoldable pub endpointsAt : Edition → Header → ℕ
-endpointsAt e h = slotsAt e + h .slots * sum slotWidths
+unfoldable pub endpointsAt : Header → ℕ
+endpointsAt h = slotsAt (h .edition) + h .slots * sum slotWidths
 
 -- the links
-unfoldable pub linksAt : Edition → Header → ℕ
-linksAt e h = endpointsAt e h + h .endpoints * sum endpointWidths
+unfoldable pub linksAt : Header → ℕ
+linksAt h = endpointsAt h + h .endpoints * sum endpointWidths
 
 -- the service links
-unfoldable pub serviceLinksAt : Edition → Header → ℕ
-serviceLinksAt e h = linksAt e h + h .links * sum (linkWidths e)
+unfoldable pub serviceLinksAt : Header → ℕ
+serviceLinksAt h = linksAt h + h .links * sum (linkWidths (h .edition))
 
 -- where the last of them ends
-unfoldable pub endAt : Edition → Header → ℕ
-endAt e h = serviceLinksAt e h + h .«service_links» * sum (serviceLinkWidths e)
+unfoldable pub endAt : Header → ℕ
+endAt h = serviceLinksAt h + h .«service_links» * sum (serviceLinkWidths (h .edition))
 
 -- the bytes that the header asks for, the bits rounded up
-unfoldable pub sizeOf : Edition → Header → ℕ
-sizeOf e h = (endAt e h + 7) / 8
+unfoldable pub sizeOf : Header → ℕ
+sizeOf h = (endAt h + 7) / 8

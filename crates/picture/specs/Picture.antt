@@ -4,9 +4,10 @@ use mathlib.Core.List.{List, map}
 use Prim.Native.Nat.{ℕ, _+_, _*_}
 use lib.Dec.{eqb}
 use Rattle.lists.specs.Lists.{range, item, sum}
+use Rattle.picture.specs.declared.Edition.{Edition}
 use Rattle.picture.specs.declared.Header.{Header}
 use Rattle.picture.specs.declared.Link.{Link}
-use Rattle.picture.specs.Layout.{Edition, editionOf, headerWidths, slotWidths, endpointWidths, linkWidths, serviceLinkWidths, fieldIn, slotsAt, endpointsAt, linksAt, serviceLinksAt}
+use Rattle.picture.specs.Layout.{editionOf, headerWidths, slotWidths, endpointWidths, linkWidths, serviceLinkWidths, fieldIn, slotsAt, endpointsAt, linksAt, serviceLinksAt}
 
 -- a slot: its state (0 held, 1 recoverable, 2 freed), and whether it is near
 pub record Slot : Type 0 where
@@ -29,10 +30,11 @@ pub record Picture : Type 0 where
 
 -- ---- what the bytes say
 
--- the header's numbers
+-- the header's numbers, by an edition
 unfoldable pub headerIn : Edition → List ℕ → Header
 headerIn e bs =
     record {
+      edition = e;
       «block_size» = fieldIn bs (headerWidths e) 0 1;
       slots = fieldIn bs (headerWidths e) 0 2;
       «near_limit» = fieldIn bs (headerWidths e) 0 3;
@@ -58,15 +60,16 @@ unfoldable pub rows : {A : Type 0} → (ℕ → A) → ℕ → ℕ → ℕ → L
 rows f p w k = map (λ i. f (p + i * w)) (range 0 k)
 
 -- what the bytes say under a header
-unfoldable pub pictureWith : Edition → Header → List ℕ → Picture
-pictureWith e h bs =
+unfoldable pub pictureWith : Header → List ℕ → Picture
+pictureWith h bs =
+    let e : Edition = h .edition in
     record {
       blockSize = h .«block_size»;
       nearLimit = h .«near_limit»;
       slots = rows (slotAt bs) (slotsAt e) (sum slotWidths) (h .slots);
-      endpoints = rows (endpointAt bs) (endpointsAt e h) (sum endpointWidths) (h .endpoints);
-      links = rows (linkAt (linkWidths e) bs) (linksAt e h) (sum (linkWidths e)) (h .links);
-      serviceLinks = rows (linkAt (serviceLinkWidths e) bs) (serviceLinksAt e h) (sum (serviceLinkWidths e)) (h .«service_links»);
+      endpoints = rows (endpointAt bs) (endpointsAt h) (sum endpointWidths) (h .endpoints);
+      links = rows (linkAt (linkWidths e) bs) (linksAt h) (sum (linkWidths e)) (h .links);
+      serviceLinks = rows (linkAt (serviceLinkWidths e) bs) (serviceLinksAt h) (sum (serviceLinkWidths e)) (h .«service_links»);
     }
 
 -- the header of any bytes
@@ -75,7 +78,7 @@ headerOf bs = headerIn (editionOf bs) bs
 
 -- the picture of any bytes
 unfoldable pub pictureOf : List ℕ → Picture
-pictureOf bs = pictureWith (editionOf bs) (headerOf bs) bs
+pictureOf bs = pictureWith (headerOf bs) bs
 
 -- ---- parts of a picture by their numbers
 

@@ -8,15 +8,15 @@ use Rattle.bits.specs.Bits.{bitAt}
 use Rattle.lists.specs.Rules.{Rule, eachRules}
 use Rattle.picture.specs.declared.Header.{Header}
 use Rattle.picture.specs.declared.Link.{Link}
-use Rattle.picture.specs.Layout.{Edition, editionOf, headerWidths, fieldIn, blocksMax, endpointsMax, linksMax, stateMax, leastBytes, endAt, sizeOf}
+use Rattle.picture.specs.Layout.{editionNumber, blocksMax, endpointsMax, linksMax, stateMax, leastBytes, headerBytes, endAt, sizeOf}
 use Rattle.picture.specs.Picture.{Picture, headerOf, pictureOf, slotOf}
 
--- "β is 1 to 8" (02, C-18: "β may be 1 to 15"); "n is 1 to 240, a multiple of β with n/β at most 60"
-pub record Sizes (e : Edition) (h : Header) : Type 0 where
+-- "β is 1 to 8" (02, C-18: "β may be 1 to 15"); "n is 1 to 240" (02, C-21: in edition 2 "n is at most 320"), "a multiple of β with n/β at most 60"
+pub record Sizes (h : Header) : Type 0 where
   pub size-some : 1 ≤ h .«block_size»
-  pub size-most : h .«block_size» ≤ e .blockSizeMax
+  pub size-most : h .«block_size» ≤ h .edition .«block_size_max»
   pub slots-some : 1 ≤ h .slots
-  pub slots-most : h .slots ≤ e .slotsMax
+  pub slots-most : h .slots ≤ h .edition .«slots_max»
   pub multiple : h .slots % h .«block_size» ≡ 0
   pub blocks-most : h .slots / h .«block_size» ≤ blocksMax
 
@@ -34,7 +34,7 @@ pub record States (n : ℕ) (p : Picture) : Type 0 where
 abbrev pub noLink : Link
 noLink = record { from = 0; to = 0 }
 
--- "L links: from 8, to 8, each 0 to n"
+-- "L links: from 8, to 8, each 0 to n", and 12 bits each in edition 2
 pub record Links (n : ℕ) (p : Picture) : Type 0 where
   pub from : (i : ℕ) → i < length (p .links) → getD (p .links) i noLink .from ≤ n
   pub to : (i : ℕ) → i < length (p .links) → getD (p .links) i noLink .to ≤ n
@@ -47,9 +47,9 @@ serviceLinkRules n d l =
     ∷ []
 
 -- "Zero bits up to the byte, then the end"
-pub record Ends (e : Edition) (h : Header) (bs : List ℕ) : Type 0 where
-  pub fill : (i : ℕ) → endAt e h ≤ i → i < sizeOf e h * 8 → bitAt bs i ≡ 0
-  pub end : length bs ≡ sizeOf e h
+pub record Ends (h : Header) (bs : List ℕ) : Type 0 where
+  pub fill : (i : ℕ) → endAt h ≤ i → i < sizeOf h * 8 → bitAt bs i ≡ 0
+  pub end : length bs ≡ sizeOf h
 
 -- the rules of the lists with their numbers, in the order in which they are judged: service links (02, C-14) "one after another, each one's
 -- location before its cab"
@@ -59,16 +59,17 @@ listRules h p =
     ∷ record { number = 6; holds = Links (h .slots) p }
     ∷ eachRules (serviceLinkRules (h .slots) (h .endpoints)) (p .serviceLinks)
 
--- all rules in their order
-unfoldable pub rulesWith : Edition → Header → Picture → List ℕ → List Rule
-rulesWith e h p bs =
+-- all rules in their order: a header that its edition leaves unfinished "gets 1, after the edition is known" (02, C-21)
+unfoldable pub rulesWith : Header → Picture → List ℕ → List Rule
+rulesWith h p bs =
     record { number = 1; holds = leastBytes ≤ length bs }
-    ∷ record { number = 2; holds = fieldIn bs (headerWidths e) 0 0 ≡ e .number }
-    ∷ record { number = 3; holds = Sizes e h }
+    ∷ record { number = 2; holds = editionNumber bs ≡ h .edition .number }
+    ∷ record { number = 1; holds = headerBytes (h .edition) ≤ length bs }
+    ∷ record { number = 3; holds = Sizes h }
     ∷ record { number = 4; holds = Counts h }
-    ∷ record { number = 1; holds = sizeOf e h ≤ length bs }
-    ∷ (listRules h p ++ (record { number = 7; holds = Ends e h bs } ∷ []))
+    ∷ record { number = 1; holds = sizeOf h ≤ length bs }
+    ∷ (listRules h p ++ (record { number = 7; holds = Ends h bs } ∷ []))
 
 -- the rules of any bytes: a picture is accepted where all of them hold, and else refused with the number of the first that is broken
 unfoldable pub rules : List ℕ → List Rule
-rules bs = rulesWith (editionOf bs) (headerOf bs) (pictureOf bs) bs
+rules bs = rulesWith (headerOf bs) (pictureOf bs) bs

@@ -2,15 +2,15 @@
 ghost use mathlib.Core.Path.{_≡_};
 ghost use mathlib.Core.List.{[], _∷_, map};
 ghost use Prim.Native.Nat.{_+_, _-_, _*_, _≤_, _<_};
-ghost use lib.ListN.{length, getD};
+ghost use lib.ListN.{length, getD, take, drop};
 ghost use Rattle.bits.specs.Bits.{putField};
 ghost use Rattle.lists.specs.Lists.{first, sum, outcome};
-ghost use Rattle.picture.specs.Layout.{edition1, stateBits, slotWidths, slotsAt, sizeOf};
+ghost use Rattle.picture.specs.Layout.{editionFor, headerWidths, stateBits, slotWidths, slotsAt, sizeOf};
 ghost use Rattle.picture.specs.Picture.{headerIn, headerOf, linkAt, pictureWith, slotOf, endpointOf};
-ghost use Rattle.picture.specs.Faults.{sizesRight, countsRight, stateFault, linkFault, serviceLinkFault, endRight, bodyFaults, pictureFault};
+ghost use Rattle.picture.specs.Faults.{sizesRight, countsRight, stateFault, linkFault, serviceLinkFault, endRight, bodyFaults, faultsWith, pictureFault};
 ghost use Rattle.picture.specs.Answers.{reading, headerValues, readingNumbers};
 ghost use Rattle.picture.specs.Rules.{noLink};
-ghost use Rattle.picture.specs.Inner.{Limited, placesOf};
+ghost use Rattle.picture.specs.Inner.{Known, Limited, placesOf};
 
 pub mod refusals;
 
@@ -18,10 +18,6 @@ pub mod refusals;
 pub const EDITION_BITS: usize = 4;
 
 pub const BLOCK_SIZE_BITS: usize = 4;
-
-pub const SLOTS_BITS: usize = 8;
-
-pub const NEAR_LIMIT_BITS: usize = 8;
 
 pub const ENDPOINTS_BITS: usize = 8;
 
@@ -35,42 +31,29 @@ pub const WEIGHT_BITS: usize = 16;
 
 pub const PROTECTED_BITS: usize = 1;
 
-pub const LOCATION_BITS: usize = 8;
-
 pub const ENDPOINT_BITS: usize = 8;
 
-// Where the fields of the header start.
+// Where β and n stand in the header. n and κ have the width of a location, which is the edition's.
 pub const BLOCK_SIZE_AT: usize = EDITION_BITS;
 
 pub const SLOT_COUNT_AT: usize = BLOCK_SIZE_AT + BLOCK_SIZE_BITS;
 
-pub const NEAR_LIMIT_AT: usize = SLOT_COUNT_AT + SLOTS_BITS;
+// Where L, S and the slots start, from D on.
+pub const LINK_COUNT_AFTER: usize = ENDPOINTS_BITS;
 
-pub const ENDPOINT_COUNT_AT: usize = NEAR_LIMIT_AT + NEAR_LIMIT_BITS;
+pub const SERVICE_LINK_COUNT_AFTER: usize = LINK_COUNT_AFTER + LINKS_BITS;
 
-pub const LINK_COUNT_AT: usize = ENDPOINT_COUNT_AT + ENDPOINTS_BITS;
-
-pub const SERVICE_LINK_COUNT_AT: usize = LINK_COUNT_AT + LINKS_BITS;
-
-pub const HEADER_BITS: usize = SERVICE_LINK_COUNT_AT + LINKS_BITS;
+const SLOTS_AFTER: usize = SERVICE_LINK_COUNT_AFTER + LINKS_BITS;
 
 // A row of each of the four lists.
 pub const SLOT_ROW: usize = STATE_BITS + NEAR_BITS;
 
 pub const ENDPOINT_ROW: usize = WEIGHT_BITS + PROTECTED_BITS;
 
-pub const LINK_ROW: usize = LOCATION_BITS + LOCATION_BITS;
-
-pub const SERVICE_LINK_ROW: usize = LOCATION_BITS + ENDPOINT_BITS;
-
 // Limits.
-pub const EDITION: usize = 1;
-
 const LEAST_BYTES: usize = 7;
 
 const BLOCK_SIZE_MAX: usize = 15;
-
-pub const SLOTS_MAX: usize = 240;
 
 pub const BLOCKS_MAX: usize = 60;
 
@@ -78,12 +61,23 @@ pub const ENDPOINTS_MAX: usize = 200;
 
 const LINKS_MAX: usize = 2000;
 
-// The longest picture, in bytes: 8,522.
-pub const PICTURE_MAX: usize = (HEADER_BITS
-    + SLOTS_MAX * SLOT_ROW
+// The width of a location and the largest n, in edition 1 and in edition 2.
+const LOCATION_BITS: usize = 8;
+
+const SLOTS_MAX: usize = 240;
+
+const WIDE_LOCATION_BITS: usize = 12;
+
+const WIDE_SLOTS_MAX: usize = 320;
+
+// The longest picture, in bytes: 11,553, in edition 2.
+pub const PICTURE_MAX: usize = (SLOT_COUNT_AT
+    + 2 * WIDE_LOCATION_BITS
+    + SLOTS_AFTER
+    + WIDE_SLOTS_MAX * SLOT_ROW
     + ENDPOINTS_MAX * ENDPOINT_ROW
-    + LINKS_MAX * LINK_ROW
-    + LINKS_MAX * SERVICE_LINK_ROW
+    + LINKS_MAX * (2 * WIDE_LOCATION_BITS)
+    + LINKS_MAX * (WIDE_LOCATION_BITS + ENDPOINT_BITS)
     + 7)
     / 8;
 
@@ -96,8 +90,17 @@ pub const FREED: usize = 2;
 
 const STATE_MAX: usize = FREED;
 
-// The header's numbers: β, n, κ, D, L and S.
+// An edition: its number; the width of n, of κ and of a location; the largest β and the largest n.
+pub struct Edition {
+    pub number: usize,
+    pub location_bits: usize,
+    pub block_size_max: usize,
+    pub slots_max: usize,
+}
+
+// The header's numbers: its edition's, β, n, κ, D, L and S.
 pub struct Header {
+    pub edition: Edition,
     pub block_size: usize,
     pub slots: usize,
     pub near_limit: usize,
@@ -126,36 +129,83 @@ pub enum Reading {
     Refused(u8),
 }
 
-// The header's numbers, whatever they are.
-fn header_of(s: &[u8]) -> Header
-    ensures { λ r. ⌜ r ≡ headerIn edition1 (now (s .entry)) ⌝ }
+// The edition of a number: for any that is none, the first.
+pub fn edition_for(number: usize) -> Edition
+    ensures { λ r. ⌜ r ≡ editionFor number ⌝ }
 {
-    Header {
-        block_size: bits::field(s, BLOCK_SIZE_AT, BLOCK_SIZE_BITS),
-        slots: bits::field(s, SLOT_COUNT_AT, SLOTS_BITS),
-        near_limit: bits::field(s, NEAR_LIMIT_AT, NEAR_LIMIT_BITS),
-        endpoints: bits::field(s, ENDPOINT_COUNT_AT, ENDPOINTS_BITS),
-        links: bits::field(s, LINK_COUNT_AT, LINKS_BITS),
-        service_links: bits::field(s, SERVICE_LINK_COUNT_AT, LINKS_BITS),
+    if number == 2 {
+        return Edition {
+            number: 2,
+            location_bits: WIDE_LOCATION_BITS,
+            block_size_max: BLOCK_SIZE_MAX,
+            slots_max: WIDE_SLOTS_MAX,
+        };
     }
+    Edition {
+        number: 1,
+        location_bits: LOCATION_BITS,
+        block_size_max: BLOCK_SIZE_MAX,
+        slots_max: SLOTS_MAX,
+    }
+}
+
+// Where D stands in the header.
+pub fn endpoint_count_at(e: Edition) -> usize
+    requires { ⌜ Known e ⌝ }
+    ensures { λ r. ⌜ r ≡ sum (take 4 (headerWidths e)) ⌝ }
+{
+    SLOT_COUNT_AT + e.location_bits + e.location_bits
+}
+
+// Where the slots start.
+pub fn slots_at(e: Edition) -> usize
+    requires { ⌜ Known e ⌝ }
+    ensures { λ r. ⌜ r ≡ slotsAt e ⌝ }
+{
+    endpoint_count_at(e) + SLOTS_AFTER
+}
+
+// The header's numbers by an edition, whatever they are.
+fn header_in(s: &[u8], e: Edition) -> Header
+    requires { ⌜ Known e ⌝ }
+    ensures { λ r. ⌜ r ≡ headerIn e (now (s .entry)) ⌝ }
+{
+    let w = e.location_bits;
+    let at = endpoint_count_at(e);
+    Header {
+        edition: e,
+        block_size: bits::field(s, BLOCK_SIZE_AT, BLOCK_SIZE_BITS),
+        slots: bits::field(s, SLOT_COUNT_AT, w),
+        near_limit: bits::field(s, SLOT_COUNT_AT + w, w),
+        endpoints: bits::field(s, at, ENDPOINTS_BITS),
+        links: bits::field(s, at + LINK_COUNT_AFTER, LINKS_BITS),
+        service_links: bits::field(s, at + SERVICE_LINK_COUNT_AFTER, LINKS_BITS),
+    }
+}
+
+// The header's numbers, by the bytes' own edition.
+fn header_of(s: &[u8]) -> Header
+    ensures { λ r. ⌜ r ≡ headerOf (now (s .entry)) ⌝ }
+{
+    header_in(s, edition_for(bits::field(s, 0, EDITION_BITS)))
 }
 
 // β and n keep their limits, and n is a multiple of β.
 pub fn sizes_right(h: Header) -> bool
-    ensures { λ r. ⌜ r ≡ sizesRight edition1 h ⌝ }
+    ensures { λ r. ⌜ r ≡ sizesRight h ⌝ }
 {
     let size = h.block_size;
     let n = h.slots;
     if size < 1 {
         return false;
     }
-    if BLOCK_SIZE_MAX < size {
+    if h.edition.block_size_max < size {
         return false;
     }
     if n < 1 {
         return false;
     }
-    if SLOTS_MAX < n {
+    if h.edition.slots_max < n {
         return false;
     }
     if n % size != 0 {
@@ -183,12 +233,13 @@ pub fn counts_right(h: Header) -> bool
 // Where the parts after the slots start, and where the last field ends.
 pub fn find_places(h: Header) -> Places
     requires { ⌜ Limited h ⌝ }
-    ensures { λ r. ⌜ r ≡ placesOf edition1 h ⌝ }
+    ensures { λ r. ⌜ r ≡ placesOf h ⌝ }
 {
-    let endpoints = HEADER_BITS + h.slots * SLOT_ROW;
+    let w = h.edition.location_bits;
+    let endpoints = slots_at(h.edition) + h.slots * SLOT_ROW;
     let links = endpoints + h.endpoints * ENDPOINT_ROW;
-    let service_links = links + h.links * LINK_ROW;
-    let end = service_links + h.service_links * SERVICE_LINK_ROW;
+    let service_links = links + h.links * (w + w);
+    let end = service_links + h.service_links * (w + ENDPOINT_BITS);
     Places {
         endpoints,
         links,
@@ -200,39 +251,47 @@ pub fn find_places(h: Header) -> Places
 // The bytes that a picture with this header takes.
 pub fn size_of(h: Header) -> usize
     requires { ⌜ Limited h ⌝ }
-    ensures { λ r. ⌜ r ≡ sizeOf edition1 h ⌝ }
+    ensures { λ r. ⌜ r ≡ sizeOf h ⌝ }
 {
     (find_places(h).end + 7) / 8
+}
+
+// Where slot v starts.
+fn slot_at(h: Header, v: usize) -> usize
+    requires { ⌜ Limited h × (1 ≤ v) × (v ≤ h .slots) ⌝ }
+    ensures { λ r. ⌜ r ≡ slotsAt (h .edition) + (v - 1) * sum slotWidths ⌝ }
+{
+    slots_at(h.edition) + (v - 1) * SLOT_ROW
 }
 
 // The state of slot v.
 pub fn slot_state(s: &[u8], h: Header, v: usize) -> usize
     requires { ⌜ Limited h × (1 ≤ v) × (v ≤ h .slots) ⌝ }
-    ensures { λ r. ⌜ r ≡ slotOf (pictureWith edition1 h (now (s .entry))) v .state ⌝ }
+    ensures { λ r. ⌜ r ≡ slotOf (pictureWith h (now (s .entry))) v .state ⌝ }
 {
-    bits::field(s, HEADER_BITS + (v - 1) * SLOT_ROW, STATE_BITS)
+    bits::field(s, slot_at(h, v), STATE_BITS)
 }
 
 // The state of slot v becomes this one: its two bits only.
 pub fn put_state(s: &mut [u8], h: Header, v: usize, state: usize)
-    requires { ⌜ Limited h × (1 ≤ v) × (v ≤ h .slots) × (sizeOf edition1 h ≤ length (now s)) ⌝ }
-    ensures { λ _. ⌜ now (s .exit) ≡ putField (now (s .entry)) (slotsAt edition1 + (v - 1) * sum slotWidths) stateBits state ⌝ }
+    requires { ⌜ Limited h × (1 ≤ v) × (v ≤ h .slots) × (sizeOf h ≤ length (now s)) ⌝ }
+    ensures { λ _. ⌜ now (s .exit) ≡ putField (now (s .entry)) (slotsAt (h .edition) + (v - 1) * sum slotWidths) stateBits state ⌝ }
 {
-    bits::put_field(s, HEADER_BITS + (v - 1) * SLOT_ROW, STATE_BITS, state);
+    bits::put_field(s, slot_at(h, v), STATE_BITS, state);
 }
 
 // Whether slot v is near.
 pub fn slot_near(s: &[u8], h: Header, v: usize) -> bool
     requires { ⌜ Limited h × (1 ≤ v) × (v ≤ h .slots) ⌝ }
-    ensures { λ r. ⌜ r ≡ slotOf (pictureWith edition1 h (now (s .entry))) v .near ⌝ }
+    ensures { λ r. ⌜ r ≡ slotOf (pictureWith h (now (s .entry))) v .near ⌝ }
 {
-    bits::field(s, HEADER_BITS + (v - 1) * SLOT_ROW + STATE_BITS, NEAR_BITS) == 1
+    bits::field(s, slot_at(h, v) + STATE_BITS, NEAR_BITS) == 1
 }
 
 // The weight of endpoint c.
 pub fn endpoint_weight(s: &[u8], h: Header, c: usize) -> usize
     requires { ⌜ Limited h × (1 ≤ c) × (c ≤ h .endpoints) ⌝ }
-    ensures { λ r. ⌜ r ≡ endpointOf (pictureWith edition1 h (now (s .entry))) c .weight ⌝ }
+    ensures { λ r. ⌜ r ≡ endpointOf (pictureWith h (now (s .entry))) c .weight ⌝ }
 {
     bits::field(
         s,
@@ -244,7 +303,7 @@ pub fn endpoint_weight(s: &[u8], h: Header, c: usize) -> usize
 // Whether endpoint c is protected.
 pub fn endpoint_protected(s: &[u8], h: Header, c: usize) -> bool
     requires { ⌜ Limited h × (1 ≤ c) × (c ≤ h .endpoints) ⌝ }
-    ensures { λ r. ⌜ r ≡ endpointOf (pictureWith edition1 h (now (s .entry))) c .protected ⌝ }
+    ensures { λ r. ⌜ r ≡ endpointOf (pictureWith h (now (s .entry))) c .protected ⌝ }
 {
     bits::field(
         s,
@@ -269,25 +328,22 @@ fn link_at(s: &[u8], p: usize, from_bits: usize, to_bits: usize) -> Link
 // Link i, counted from 0.
 pub fn nth_link(s: &[u8], h: Header, i: usize) -> Link
     requires { ⌜ Limited h × (i < h .links) ⌝ }
-    ensures { λ r. ⌜ r ≡ getD (pictureWith edition1 h (now (s .entry)) .links) i noLink ⌝ }
+    ensures { λ r. ⌜ r ≡ getD (pictureWith h (now (s .entry)) .links) i noLink ⌝ }
 {
-    link_at(
-        s,
-        find_places(h).links + i * LINK_ROW,
-        LOCATION_BITS,
-        LOCATION_BITS,
-    )
+    let w = h.edition.location_bits;
+    link_at(s, find_places(h).links + i * (w + w), w, w)
 }
 
 // Service link i, counted from 0.
 pub fn nth_service_link(s: &[u8], h: Header, i: usize) -> Link
     requires { ⌜ Limited h × (i < h .«service_links») ⌝ }
-    ensures { λ r. ⌜ r ≡ getD (pictureWith edition1 h (now (s .entry)) .serviceLinks) i noLink ⌝ }
+    ensures { λ r. ⌜ r ≡ getD (pictureWith h (now (s .entry)) .serviceLinks) i noLink ⌝ }
 {
+    let w = h.edition.location_bits;
     link_at(
         s,
-        find_places(h).service_links + i * SERVICE_LINK_ROW,
-        LOCATION_BITS,
+        find_places(h).service_links + i * (w + ENDPOINT_BITS),
+        w,
         ENDPOINT_BITS,
     )
 }
@@ -305,7 +361,7 @@ pub fn state_fault(state: usize) -> u8
 // The fault of the first slot without one of the three states.
 fn states_fault(s: &[u8], h: Header) -> u8
     requires { ⌜ Limited h ⌝ }
-    ensures { λ r. ⌜ r ≡ first (map (λ q. stateFault (q .state)) (pictureWith edition1 h (now (s .entry)) .slots)) ⌝ }
+    ensures { λ r. ⌜ r ≡ first (map (λ q. stateFault (q .state)) (pictureWith h (now (s .entry)) .slots)) ⌝ }
 {
     let n = h.slots;
     let mut i: usize = 0;
@@ -337,7 +393,7 @@ pub fn link_fault(l: Link, n: usize) -> u8
 // The fault of the first link that names what is not there.
 fn links_fault(s: &[u8], h: Header) -> u8
     requires { ⌜ Limited h ⌝ }
-    ensures { λ r. ⌜ r ≡ first (map (linkFault (h .slots)) (pictureWith edition1 h (now (s .entry)) .links)) ⌝ }
+    ensures { λ r. ⌜ r ≡ first (map (linkFault (h .slots)) (pictureWith h (now (s .entry)) .links)) ⌝ }
 {
     let count = h.links;
     let mut i: usize = 0;
@@ -372,7 +428,7 @@ pub fn service_link_fault(l: Link, n: usize, d: usize) -> u8
 // The fault of the first service link that has one.
 fn service_links_fault(s: &[u8], h: Header) -> u8
     requires { ⌜ Limited h ⌝ }
-    ensures { λ r. ⌜ r ≡ first (map (serviceLinkFault (h .slots) (h .endpoints)) (pictureWith edition1 h (now (s .entry)) .serviceLinks)) ⌝ }
+    ensures { λ r. ⌜ r ≡ first (map (serviceLinkFault (h .slots) (h .endpoints)) (pictureWith h (now (s .entry)) .serviceLinks)) ⌝ }
 {
     let count = h.service_links;
     let mut i: usize = 0;
@@ -389,7 +445,7 @@ fn service_links_fault(s: &[u8], h: Header) -> u8
 // Zero bits up to the byte, then the end.
 fn end_right(s: &[u8], h: Header) -> bool
     requires { ⌜ Limited h ⌝ }
-    ensures { λ r. ⌜ r ≡ endRight edition1 h (now (s .entry)) ⌝ }
+    ensures { λ r. ⌜ r ≡ endRight h (now (s .entry)) ⌝ }
 {
     let size = size_of(h);
     let end = find_places(h).end;
@@ -402,7 +458,7 @@ fn end_right(s: &[u8], h: Header) -> bool
 // The first fault of the parts after the header, in bytes that are long enough for them, or 0.
 fn body_fault(s: &[u8], h: Header) -> u8
     requires { ⌜ Limited h ⌝ }
-    ensures { λ r. ⌜ r ≡ first (bodyFaults edition1 h (pictureWith edition1 h (now (s .entry))) (now (s .entry))) ⌝ }
+    ensures { λ r. ⌜ r ≡ first (bodyFaults h (pictureWith h (now (s .entry))) (now (s .entry))) ⌝ }
 {
     let state = states_fault(s, h);
     if state != 0 {
@@ -422,17 +478,11 @@ fn body_fault(s: &[u8], h: Header) -> u8
     refusals::FILL
 }
 
-// The number of the first fault, or 0.
-fn fault(s: &[u8]) -> u8
-    ensures { λ r. ⌜ r ≡ pictureFault (now (s .entry)) ⌝ }
+// The first fault behind the edition's, or 0: the sizes and counts of the header, and then the parts.
+fn header_fault(s: &[u8], h: Header) -> u8
+    requires { ⌜ Known (h .edition) ⌝ }
+    ensures { λ r. ⌜ r ≡ first (drop 3 (faultsWith h (pictureWith h (now (s .entry))) (now (s .entry)))) ⌝ }
 {
-    if s.len() < LEAST_BYTES {
-        return refusals::SHORT;
-    }
-    if bits::field(s, 0, EDITION_BITS) != EDITION {
-        return refusals::EDITION;
-    }
-    let h = header_of(s);
     let sizes = sizes_right(h);
     if !sizes {
         return refusals::BLOCKS;
@@ -445,6 +495,24 @@ fn fault(s: &[u8]) -> u8
         return refusals::SHORT;
     }
     body_fault(s, h)
+}
+
+// The number of the first fault, or 0.
+fn fault(s: &[u8]) -> u8
+    ensures { λ r. ⌜ r ≡ pictureFault (now (s .entry)) ⌝ }
+{
+    if s.len() < LEAST_BYTES {
+        return refusals::SHORT;
+    }
+    let number = bits::field(s, 0, EDITION_BITS);
+    let e = edition_for(number);
+    if e.number != number {
+        return refusals::EDITION;
+    }
+    if s.len() < slots_at(e) / 8 {
+        return refusals::SHORT;
+    }
+    header_fault(s, header_in(s, e))
 }
 
 // Reads a picture of any bytes: accepted, with the header's numbers, or refused with the number of its first fault.

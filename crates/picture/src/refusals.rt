@@ -1,13 +1,14 @@
 // The numbers of refusals, for every layer, by the names of the header for C. Every call judges the picture first (1 to 7, 17 and 18), and
-// write the lists of one (3 to 6, 17 and 18).
+// write the lists of one (2 to 6, 17 and 18).
 
 // The picture is shorter than a header, or than its header says.
 pub const SHORT: u8 = 1;
 
-// Its edition is not 1.
+// Its edition is neither 1 nor 2.
 pub const EDITION: u8 = 2;
 
-// Block size, slots or number of blocks out of range, or slots not a multiple of the block size. Write: columns of slots that differ in length.
+// Block size, slots or number of blocks out of range, or slots not a multiple of the block size. Write: columns of slots that differ in length,
+// or a near limit that the header has no room for.
 pub const BLOCKS: u8 = 3;
 
 // Number of endpoints, links or service links out of range. Write: columns of endpoints that differ in length.

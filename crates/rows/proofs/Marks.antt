@@ -14,7 +14,7 @@ use borrow.Author.Tests.{eq-eqb, ne-eqb, le-leb, lt-ltb}
 use lib.Dec.{T, T-not, leb, eqb, leb→le, le→leb, eqb→eq}
 use lib.ListN.{length, getD, set, replicate, length-set, length-replicate, List·getD-eq-default}
 use lib.Seq.{getD-set-same, getD-set-other}
-use Rattle.rows.specs.Rows.{bit, marked, linkedIn, With, Linked, Meet, rowWords, inWord}
+use Rattle.rows.specs.Rows.{bit, marked, linkedIn, wordsFor, Narrow, With, Linked, Differ, Minus, Meet, slotsMax, rowWords, inWord}
 use Rattle.lists.proofs.Tests.{and-T, T-and, eq-T, not-not-T, is-false}
 use Rattle.lists.proofs.Picks.{zeros-at}
 use Rattle.rows.proofs.Digits.{bit-none, digit-and, digit-or, digit-xor, digit-shifted}
@@ -68,6 +68,10 @@ module _ (i : ℕ) (marks : ℕ → Bool) (v : ℕ) where
   unfolding fromWord
   word-from l t = T-and (leb i (v / 64)) (marks v) (le→leb i (v / 64) l) t
 
+-- a location whose word is 0 is not marked
+word-none : (row : List ℕ) (v : ℕ) → getD row (v / 64) 0 ≡ 0 → ¬ T (marked row v)
+word-none row v z t = omega (arith, bit-none (v % 64), rw z at (mark-digit row v t))
+
 -- from the first word on all marks are left
 pub from-first : (marks : ℕ → Bool) (v : ℕ) → T (marks v) → T (fromWord 0 marks v)
 from-first marks v t = word-from 0 marks v (omega arith) t
@@ -76,7 +80,7 @@ from-first marks v t = word-from 0 marks v (omega arith) t
 pub from-past : (row : List ℕ) (i : ℕ) → length row ≤ i → (v : ℕ) → ¬ T (fromWord i (marked row) v)
 from-past row i l v t =
     let s = from-word i (marked row) v t in
-    omega (arith, mark-digit row v (s .1), bit-none (v % 64), ap (λ w. bit w (v % 64)) (List·getD-eq-default row 0 {n = v / 64} (omega (arith, s .0))))
+    word-none row v (List·getD-eq-default row 0 (omega (arith, s .0))) (s .1)
 
 -- the marks of later words are above those of the words before
 pub from-part : (i : ℕ) (marks : ℕ → Bool) → Part marks (fromWord i marks)
@@ -117,52 +121,72 @@ module _ (row : List ℕ) (i w : ℕ) where
   unfolding marked
   mark-other v ne = rw (getD-set-other row i (v / 64) w 0 ne)
 
+-- ---- rows with marks in their first words alone
+
+-- marks of the locations 0 to n are in the words that these take
+pub narrow-for : (n : ℕ) (row : List ℕ) → n ≤ slotsMax → ((v : ℕ) → T (marked row v) → v ≤ n) → Narrow (wordsFor n) row
+unfolding wordsFor
+narrow-for n row most within = record { most = omega arith; within = λ v t. omega (arith, within v t) }
+
+module _ {words : ℕ} {row : List ℕ} (narrow : Narrow words row) {i : ℕ} (passed : words ≤ i) where
+  -- no location from word i on is marked
+  pub narrow-past : (v : ℕ) → i ≤ v / 64 → ¬ T (marked row v)
+  narrow-past v l t = omega (arith, narrow .within v t)
+
+  pub narrow-from : (v : ℕ) → ¬ T (fromWord i (marked row) v)
+  narrow-from v t = let s = from-word i (marked row) v t in narrow-past v (s .0) (s .1)
+
+  -- so none is where the words below i are 0
+  pub none-marked : ((j : ℕ) → j < i → getD row j 0 ≡ 0) → (v : ℕ) → ¬ T (marked row v)
+  none-marked zeros v = by-cases (decLt (v / 64) i) (λ l. word-none row v (zeros (v / 64) l)) (λ nl. narrow-past v (omega arith))
+
 -- ---- rows that are made word by word, by an operator that works digit by digit
 
--- of a row, i words are made of those of two others
-pub record Made (op : ℕ → ℕ → ℕ) (n : ℕ) (one other row : List ℕ) (i : ℕ) : Type 0 where
-  pub within : i ≤ n
-  pub ones : length one ≡ n
-  pub others : length other ≡ n
-  pub rows : length row ≡ n
+-- of a row, i words are made of those of two others, and the rest are 0
+pub record Made (op : ℕ → ℕ → ℕ) (one other row : List ℕ) (i : ℕ) : Type 0 where
+  pub within : i ≤ rowWords
+  pub rows : length row ≡ rowWords
   pub words : (j : ℕ) → j < i → getD row j 0 ≡ op (getD one j 0) (getD other j 0)
+  pub rest : (j : ℕ) → i ≤ j → getD row j 0 ≡ 0
 
-pub made-next : (op : ℕ → ℕ → ℕ) (n : ℕ) (one other row : List ℕ) (i : ℕ) → Made op n one other row i → i < n
-    → Made op n one other (set row i (op (getD one i 0) (getD other i 0))) (i + 1)
-made-next op n one other row i m l =
-    record {
-      within = omega arith;
-      ones = m .ones;
-      others = m .others;
-      rows = simp length-set (m .rows);
-      words = below-more _ _ (λ j h. getD-set-other row i j _ 0 (omega arith) ∙ m .words j h) (getD-set-same row i _ 0 (omega (arith, m .rows)));
-    }
+module _ (op : ℕ → ℕ → ℕ) {one other : List ℕ} where
+  pub made-begun : Made op one other (replicate rowWords 0) 0
+  made-begun =
+      record {
+        within = omega arith;
+        rows = length-replicate {A = ℕ} rowWords 0;
+        words = λ j l. absurd (omega arith);
+        rest = λ j l. zeros-at rowWords j;
+      }
 
--- when all are made, a mark of the row is the test of the two marks
-pub made-marks : (op : ℕ → ℕ → ℕ) (test : Bool → Bool → Bool) → ((a b k : ℕ) → eqb (bit (op a b) k) 1 ≡ test (eqb (bit a k) 1) (eqb (bit b k) 1)) → op 0 0 ≡ 0
-    → (n : ℕ) (one other row : List ℕ) → Made op n one other row n → (v : ℕ) → marked row v ≡ test (marked one v) (marked other v)
-unfolding marked
-made-marks op test digit zeros n one other row m v =
-    ap (λ w. eqb (bit w (v % 64)) 1) (all (v / 64)) ∙ digit (getD one (v / 64) 0) (getD other (v / 64) 0) (v % 64)
-  where
-    all : (j : ℕ) → getD row j 0 ≡ op (getD one j 0) (getD other j 0)
-    all j =
+  pub made-next : {row : List ℕ} {i : ℕ} → Made op one other row i → i < rowWords → Made op one other (set row i (op (getD one i 0) (getD other i 0))) (i + 1)
+  made-next {row} {i} m l =
+      record {
+        within = omega arith;
+        rows = simp length-set (m .rows);
+        words = below-more _ _ (λ j h. getD-set-other row i j _ 0 (omega arith) ∙ m .words j h) (getD-set-same row i _ 0 (omega (arith, m .rows)));
+        rest = λ j h. getD-set-other row i j _ 0 (omega arith) ∙ m .rest j (omega arith);
+      }
+
+  -- when no more need be made, a mark of the row is the test of the two marks
+  module _ (test : Bool → Bool → Bool) (digit : (a b k : ℕ) → eqb (bit (op a b) k) 1 ≡ test (eqb (bit a k) 1) (eqb (bit b k) 1)) where
+    made-here : {row : List ℕ} {i : ℕ} → Made op one other row i → (v : ℕ) → v / 64 < i → marked row v ≡ test (marked one v) (marked other v)
+    unfolding marked
+    made-here m v l = ap (λ w. eqb (bit w (v % 64)) 1) (m .words (v / 64) l) ∙ digit (getD one (v / 64) 0) (getD other (v / 64) 0) (v % 64)
+
+    made-marks : {row : List ℕ} {i : ℕ} → Made op one other row i → ((v : ℕ) → i ≤ v / 64 → test (marked one v) (marked other v) ≡ false)
+        → (v : ℕ) → marked row v ≡ test (marked one v) (marked other v)
+    made-marks {row} {i} m past v =
         by-cases
-        (decLt j n)
-        (m .words j)
-        (λ nl.
-        rw (
-          List·getD-eq-default row 0 {n = j} (omega (arith, m .rows)),
-          List·getD-eq-default one 0 {n = j} (omega (arith, m .ones)),
-          List·getD-eq-default other 0 {n = j} (omega (arith, m .others)),
-        )
-        (sym zeros))
+        (decLt (v / 64) i)
+        (made-here m v)
+        (λ nl. is-false (marked row v) (word-none row v (m .rest (v / 64) (omega arith))) ∙ sym (past v (omega arith)))
 
 -- what the first word has and the second has not
 abbrev pub lessWord : ℕ → ℕ → ℕ
 lessWord a b = bitXor a (bitAnd a b)
 
-pub digit-less : (a b k : ℕ) → eqb (bit (lessWord a b) k) 1 ≡ (eqb (bit a k) 1 && not (eqb (bit b k) 1))
+digit-less : (a b k : ℕ) → eqb (bit (lessWord a b) k) 1 ≡ (eqb (bit a k) 1 && not (eqb (bit b k) 1))
 unfolding xor
 digit-less a b k = digit-xor a (bitAnd a b) k ∙ ap (xor (eqb (bit a k) 1)) (digit-and a b k) ∙ less (eqb (bit a k) 1) (eqb (bit b k) 1)
   where
@@ -171,15 +195,24 @@ digit-less a b k = digit-xor a (bitAnd a b) k ∙ ap (xor (eqb (bit a k) 1)) (di
     less true false = refl
     less false y = refl
 
--- a row whose words are 0 marks nothing
-pub none-marked : (row : List ℕ) (n : ℕ) → length row ≤ n → ((j : ℕ) → j < n → getD row j 0 ≡ 0) → (v : ℕ) → ¬ T (marked row v)
-none-marked row n l zeros v t =
-    let z : getD row (v / 64) 0 ≡ 0 = by-cases (decLt (v / 64) n) (zeros (v / 64)) (λ nl. List·getD-eq-default row 0 (omega arith)) in
-    omega (arith, bit-none (v % 64), rw z at (mark-digit row v t))
+-- the rows are narrow, and all words that have marks are made
+module _ {words : ℕ} {one other row : List ℕ} {i : ℕ} where
+  pub differ-ended : Narrow words one × Narrow words other → Made bitXor one other row i → words ≤ i → Differ one other row
+  unfolding xor
+  differ-ended n m l =
+      record {
+        marks =
+            made-marks bitXor xor digit-xor m
+            (λ v h. rw (is-false (marked one v) (narrow-past (n .0) l v h), is-false (marked other v) (narrow-past (n .1) l v h)));
+      }
+
+  pub minus-ended : Narrow words one → Made lessWord one other row i → words ≤ i → Minus one other row
+  minus-ended n m l =
+      record { marks = made-marks lessWord (λ x y. x && not y) digit-less m (λ v h. rw (is-false (marked one v) (narrow-past n l v h))) }
 
 -- a row of zeros marks nothing
 pub clear : (n v : ℕ) → ¬ T (marked (replicate n 0) v)
-clear n v = none-marked (replicate n 0) n (omega (arith, length-replicate {A = ℕ} n 0)) (λ j l. zeros-at n j) v
+clear n v = word-none (replicate n 0) v (zeros-at n (v / 64))
 
 pub clear-row : (n v : ℕ) → marked (replicate n 0) v ≡ false
 clear-row n v = is-false (marked (replicate n 0) v) (clear n v)
@@ -236,51 +269,54 @@ or-none a b e = (omega (arith, or-add-and a b, and-le-l a b, and-le-r a b), omeg
 -- of the words of two rows, i are looked at, and `seen` is 0 where they have nothing in common
 pub record Looked (one other : List ℕ) (seen i : ℕ) : Type 0 where
   pub within : i ≤ rowWords
-  pub ones : length one ≡ rowWords
-  pub others : length other ≡ rowWords
+  pub small : (j : ℕ) → getD one j 0 < 2 ^ 64
   pub none : seen ≡ 0 → (j : ℕ) → j < i → bitAnd (getD one j 0) (getD other j 0) ≡ 0
-  pub some : (seen ≡ 0 → ⊥) → (j : ℕ) × (j < i) × (getD one j 0 < 2 ^ 64) × (bitAnd (getD one j 0) (getD other j 0) ≡ 0 → ⊥)
+  pub some : (seen ≡ 0 → ⊥) → (j : ℕ) × (j < i) × (bitAnd (getD one j 0) (getD other j 0) ≡ 0 → ⊥)
 
-module _ (one other : List ℕ) (seen i : ℕ) where
-  pub looked-next : Looked one other seen i → i < rowWords → getD one i 0 < 2 ^ 64 → Looked one other (bitOr seen (bitAnd (getD one i 0) (getD other i 0))) (i + 1)
-  looked-next l h small =
-      let w : ℕ = bitAnd (getD one i 0) (getD other i 0) in
-      record {
-        within = omega arith;
-        ones = l .ones;
-        others = l .others;
-        none = λ z. below-more _ _ (l .none (or-none seen w z .0)) (or-none seen w z .1);
-        some =
-            λ n.
+module _ {one other : List ℕ} where
+  pub looked-begun : ((j : ℕ) → getD one j 0 < 2 ^ 64) → Looked one other 0 0
+  looked-begun small = record { within = omega arith; small = small; none = λ z j l. absurd (omega arith); some = λ n. absurd (n refl) }
+
+  module _ {seen i : ℕ} (l : Looked one other seen i) where
+    pub looked-next : i < rowWords → Looked one other (bitOr seen (bitAnd (getD one i 0) (getD other i 0))) (i + 1)
+    looked-next h =
+        let w : ℕ = bitAnd (getD one i 0) (getD other i 0) in
+        record {
+          within = omega arith;
+          small = l .small;
+          none = λ z. below-more _ _ (l .none (or-none seen w z .0)) (or-none seen w z .1);
+          some =
+              λ n.
+              by-cases
+              (ℕ-discrete w 0)
+              (λ e. let r = l .some (λ z. n (rw (z, e))) in (r .0, omega (arith, r .1), r .2))
+              (λ ne. (i, omega arith, ne));
+        }
+
+    -- the words of the other row that have marks are looked at
+    pub looked-all : {words : ℕ} → Narrow words other → words ≤ i → Meet (marked one) (marked other) (not (eqb seen 0))
+    looked-all narrow passed =
+        record {
+          common = λ t. common (l .some (λ z. T-not (eqb seen 0) t (eq-T seen 0 z)));
+          apart = λ t v a b. apart (l .none (eqb→eq seen 0 (not-not-T (eqb seen 0) t))) v a b;
+        }
+      where
+        both : (j v : ℕ) → T (inWord (bitAnd (getD one j 0) (getD other j 0)) (j * 64) v) → T (marked one v) × T (marked other v)
+        both j v t =
+            let s = common-words (getD one j 0) (getD other j 0) (j * 64) v t in
+            (word-marked one j v (s .0) .1, word-marked other j v (s .1) .1)
+
+        common : (j : ℕ) × (j < i) × (bitAnd (getD one j 0) (getD other j 0) ≡ 0 → ⊥) → (v : ℕ) × T (marked one v) × T (marked other v)
+        common r =
+            let w : ℕ = bitAnd (getD one (r .0) 0) (getD other (r .0) 0) in
+            let v : ℕ = r .0 * 64 + trailingZeros 64 w in
+            let s = both (r .0) v (word-here (word-begun w (r .0 * 64) (lt-of-le-of-lt (and-le-l (getD one (r .0) 0) (getD other (r .0) 0)) (l .small (r .0)))) (r .2)) in
+            (v, s .0, s .1)
+
+        apart : ((j : ℕ) → j < i → bitAnd (getD one j 0) (getD other j 0) ≡ 0) → (v : ℕ) → T (marked one v) → ¬ T (marked other v)
+        apart none v a b =
+            let j : ℕ = v / 64 in
             by-cases
-            (ℕ-discrete w 0)
-            (λ e. let r = l .some (λ z. n (rw (z, e))) in (r .0, omega (arith, r .1), r .2, r .3))
-            (λ ne. (i, omega arith, small, ne));
-      }
-
-  pub looked-all : Looked one other seen i → rowWords ≤ i → Meet (marked one) (marked other) (not (eqb seen 0))
-  looked-all l h =
-      record {
-        common = λ t. common (l .some (λ z. T-not (eqb seen 0) t (eq-T seen 0 z)));
-        apart = λ t v a b. apart (l .none (eqb→eq seen 0 (not-not-T (eqb seen 0) t))) v a b;
-      }
-    where
-      both : (j v : ℕ) → T (inWord (bitAnd (getD one j 0) (getD other j 0)) (j * 64) v) → T (marked one v) × T (marked other v)
-      both j v t =
-          let s = common-words (getD one j 0) (getD other j 0) (j * 64) v t in
-          (word-marked one j v (s .0) .1, word-marked other j v (s .1) .1)
-
-      common : (j : ℕ) × (j < i) × (getD one j 0 < 2 ^ 64) × (bitAnd (getD one j 0) (getD other j 0) ≡ 0 → ⊥) → (v : ℕ) × T (marked one v) × T (marked other v)
-      common r =
-          let w : ℕ = bitAnd (getD one (r .0) 0) (getD other (r .0) 0) in
-          let v : ℕ = r .0 * 64 + trailingZeros 64 w in
-          let s = both (r .0) v (word-here (word-begun w (r .0 * 64) (lt-of-le-of-lt (and-le-l (getD one (r .0) 0) (getD other (r .0) 0)) (r .2))) (r .3)) in
-          (v, s .0, s .1)
-
-      apart : ((j : ℕ) → j < i → bitAnd (getD one j 0) (getD other j 0) ≡ 0) → (v : ℕ) → T (marked one v) → ¬ T (marked other v)
-      apart none v a b =
-          let j : ℕ = v / 64 in
-          by-cases
-          (decLt j rowWords)
-          (λ s. none-in-zero (bitAnd (getD one j 0) (getD other j 0)) (j * 64) (none j (omega arith)) v (both-words (getD one j 0) (getD other j 0) (j * 64) v (marked-word one j v refl a) (marked-word other j v refl b)))
-          (λ s. from-past one rowWords (omega (arith, l .ones)) v (word-from rowWords (marked one) v (omega arith) a))
+            (decLt j i)
+            (λ h. none-in-zero (bitAnd (getD one j 0) (getD other j 0)) (j * 64) (none j h) v (both-words (getD one j 0) (getD other j 0) (j * 64) v (marked-word one j v refl a) (marked-word other j v refl b)))
+            (λ h. narrow-past narrow passed v (omega arith) b)

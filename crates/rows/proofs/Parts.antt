@@ -33,7 +33,7 @@ module _ (marks left : ℕ → Bool) where
   unfolding done
   done-split v t = let s = and-T (marks v) (not (left v)) t in (s .0, T-not (left v) (s .1))
 
-  split-done : (v : ℕ) → T (marks v) → ¬ T (left v) → T (done marks left v)
+  pub split-done : (v : ℕ) → T (marks v) → ¬ T (left v) → T (done marks left v)
   unfolding done
   split-done v m l = T-and (marks v) (not (left v)) m (not-T (left v) l)
 

@@ -2,13 +2,13 @@
 use mathlib.Core.Bool.{Bool, not, xor, _&&_, _||_}
 use mathlib.Core.List.{List, []}
 use mathlib.Core.Path.{_≡_}
-use Prim.Native.Nat.{ℕ, _+_, _-_, _*_, _/_, _%_, _^_}
+use Prim.Native.Nat.{ℕ, _+_, _-_, _*_, _/_, _%_, _^_, _≤_, _<_}
 use lib.ListN.{length, getD}
 use lib.Dec.{T, leb, ltb, eqb}
 
 -- the slots that rows have a place for: locations are 0, the origin, and the slots 1 to slotsMax
 abbrev pub slotsMax : ℕ
-slotsMax = 240
+slotsMax = 320
 
 -- the rows of a table of links, one for each location
 abbrev pub locationsMax : ℕ
@@ -16,7 +16,11 @@ locationsMax = slotsMax + 1
 
 -- the words of a row
 abbrev pub rowWords : ℕ
-rowWords = 4
+rowWords = 6
+
+-- those of them that the locations 0 to n take
+unfoldable pub wordsFor : ℕ → ℕ
+wordsFor n = n / 64 + 1
 
 -- the locations, or endpoints, that they can mark
 abbrev pub marksMax : ℕ
@@ -37,6 +41,11 @@ linkedIn rows a b = marked (getD rows a []) b
 -- whether v is one of the 64 locations from base on, and marked in their word
 unfoldable pub inWord : ℕ → ℕ → ℕ → Bool
 inWord word base v = leb base v && (ltb v (base + 64) && eqb (bit word (v - base)) 1)
+
+-- a row marks nothing behind its first words, so that no more than these need be looked at
+pub record Narrow (words : ℕ) (row : List ℕ) : Type 0 where
+  pub most : words ≤ rowWords
+  pub within : (v : ℕ) → T (marked row v) → v < words * 64
 
 -- ---- what the functions on rows do, at each location
 

@@ -4,19 +4,28 @@ ghost use Prim.Native.Nat.{_+_, _-_, _<_};
 ghost use lib.ListN.{length};
 ghost use Rattle.lists.specs.Lists.{range, any};
 ghost use Rattle.rows.specs.Ranges.{noRange, UpTo, LeftOut};
-ghost use Rattle.rows.specs.Rows.{marked, With, Linked, Differ, Minus, NoneMarked, Meet, marksMax, rowWords};
+ghost use Rattle.rows.specs.Rows.{marked, wordsFor, Narrow, With, Linked, Differ, Minus, NoneMarked, Meet, marksMax, rowWords};
 
 // The slots that rows have a place for.
-pub const SLOTS: usize = 240;
+pub const SLOTS: usize = 320;
 // Locations are 0, the origin, and the slots from 1 on.
 pub const LOCATIONS: usize = SLOTS + 1;
 // The words of a row, with 64 marks each.
-pub const WORDS: usize = 4;
+pub const WORDS: usize = 6;
+// Most rows need no more than these. A loop over them has a known end, and is compiled without a test for each word.
+const FEW_WORDS: usize = 4;
 
 // Locations by their numbers: those above the first number, up to the second (01: the slots of a block).
 pub struct Range {
     pub after: usize,
     pub last: usize,
+}
+
+// The words that the locations 0 to n take.
+pub fn words_for(n: usize) -> usize
+    ensures { λ r. ⌜ r ≡ wordsFor n ⌝ }
+{
+    n / 64 + 1
 }
 
 // Whether v is marked.
@@ -28,7 +37,7 @@ pub fn has(row: &[u64; WORDS], v: usize) -> bool
 }
 
 // Tells the prover that a row has so many words, which it knows of an array by value and not of one behind a reference. It does nothing.
-fn four_words(row: [u64; WORDS])
+fn all_words(row: [u64; WORDS])
     ensures { λ _. ⌜ length row ≡ rowWords ⌝ }
 {}
 
@@ -37,7 +46,7 @@ pub fn add(row: &mut [u64; WORDS], v: usize)
     requires { ⌜ v < marksMax ⌝ }
     ensures { λ _. ⌜ With (now (row .entry)) v (now (row .exit)) ⌝ }
 {
-    four_words(*row);
+    all_words(*row);
     let w = row[v / 64];
     row[v / 64] = w | (1 << (v % 64));
 }
@@ -51,37 +60,52 @@ pub fn mark(rows: &mut [[u64; WORDS]], a: usize, b: usize)
 }
 
 // What one of two rows marks and the other does not.
-pub fn differ(before: [u64; WORDS], after: [u64; WORDS]) -> [u64; WORDS]
+pub fn differ(before: [u64; WORDS], after: [u64; WORDS], words: usize) -> [u64; WORDS]
+    requires { ⌜ Narrow words before × Narrow words after ⌝ }
     ensures { λ r. ⌜ Differ before after r ⌝ }
 {
     let mut row = [0u64; WORDS];
     let mut i: usize = 0;
-    while i < WORDS {
+    while i < FEW_WORDS {
         row[i] = before[i] ^ after[i];
         i += 1;
+    }
+    if FEW_WORDS < words {
+        while i < WORDS {
+            row[i] = before[i] ^ after[i];
+            i += 1;
+        }
     }
     row
 }
 
 // What the first row marks and the second does not.
-pub fn minus(row: [u64; WORDS], less: [u64; WORDS]) -> [u64; WORDS]
+pub fn minus(row: [u64; WORDS], less: [u64; WORDS], words: usize) -> [u64; WORDS]
+    requires { ⌜ Narrow words row ⌝ }
     ensures { λ r. ⌜ Minus row less r ⌝ }
 {
     let mut left = [0u64; WORDS];
     let mut i: usize = 0;
-    while i < WORDS {
+    while i < FEW_WORDS {
         left[i] = row[i] ^ (row[i] & less[i]);
         i += 1;
+    }
+    if FEW_WORDS < words {
+        while i < WORDS {
+            left[i] = row[i] ^ (row[i] & less[i]);
+            i += 1;
+        }
     }
     left
 }
 
 // Whether a row marks nothing.
-pub fn none_marked(row: [u64; WORDS]) -> bool
+pub fn none_marked(row: [u64; WORDS], words: usize) -> bool
+    requires { ⌜ Narrow words row ⌝ }
     ensures { λ r. ⌜ NoneMarked row r ⌝ }
 {
     let mut i: usize = 0;
-    while i < WORDS {
+    while i < words {
         if row[i] != 0 {
             return false;
         }
@@ -90,15 +114,22 @@ pub fn none_marked(row: [u64; WORDS]) -> bool
     true
 }
 
-// Whether two rows have a mark in common. Every word is looked at, since a branch for each costs more.
-pub fn meet(row: [u64; WORDS], other: [u64; WORDS]) -> bool
+// Whether two rows have a mark in common. The words are looked at without a branch for each, which would cost more.
+pub fn meet(row: [u64; WORDS], other: [u64; WORDS], words: usize) -> bool
+    requires { ⌜ Narrow words other ⌝ }
     ensures { λ r. ⌜ Meet (marked row) (marked other) r ⌝ }
 {
     let mut common: u64 = 0;
     let mut i: usize = 0;
-    while i < WORDS {
+    while i < FEW_WORDS {
         common = common | (row[i] & other[i]);
         i += 1;
+    }
+    if FEW_WORDS < words {
+        while i < WORDS {
+            common = common | (row[i] & other[i]);
+            i += 1;
+        }
     }
     common != 0
 }

@@ -28,8 +28,14 @@ inside c = c .before .before .pre .0 .within _ (word-here (c .before .loop .inv 
 add-v : tie.Need-add-v Inv-loop μ-loop
 add-v c = omega (arith, inside c)
 
+mul-parent : tie.Need-mul-parent Inv-loop μ-loop
+mul-parent c = omega (arith, inside c)
+
 element-write-parent : tie.Need-element-write-parent Inv-loop μ-loop
 element-write-parent c = omega (arith, inside c)
+
+mul-depth : tie.Need-mul-depth Inv-loop μ-loop
+mul-depth c = omega (arith, inside c)
 
 element-write-depth : tie.Need-element-write-depth Inv-loop μ-loop
 element-write-depth c = omega (arith, inside c)
@@ -55,7 +61,9 @@ enter-spec =
     loop-holds
     cast-v
     add-v
+    mul-parent
     element-write-parent
+    mul-depth
     element-write-depth
     sub-w
     loop-less

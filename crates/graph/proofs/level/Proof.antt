@@ -1,20 +1,19 @@
 -- `level` sweeps the rows of a frontier. The invariant: the rows of the words passed are swept. Assumes nothing.
 use Prim.Native.Nat.{_-_}
 use native.Mathlib.Omega.{arith}
-use Rattle.rows.specs.Rows.{rowWords}
 use borrow.Author.Needs.{needs}
 use Rattle.graph.proofs.Frontiers.{RowSweeping, row-locations, row-sweep-begun, row-sweep-next, row-sweep-ended}
 use Rattle.graph.proofs.level.Statement.{statement}
 use Rattle.graph.proofs.level.Tie as tie
 
 abbrev Inv-loop : tie.InvT-loop
-Inv-loop links block fresh₀ parent₀ depth₀ d frontier i₀ fresh parent depth i = RowSweeping block links frontier d i fresh₀ parent₀ depth₀ fresh parent depth
+Inv-loop links words block fresh₀ parent₀ depth₀ d frontier i₀ fresh parent depth i = RowSweeping block links frontier words d i fresh₀ parent₀ depth₀ fresh parent depth
 
 abbrev μ-loop : tie.MeasureT-loop
-μ-loop links block fresh₀ parent₀ depth₀ d frontier i₀ fresh parent depth i = rowWords - i
+μ-loop links words block fresh₀ parent₀ depth₀ d frontier i₀ fresh parent depth i = words - i
 
 loop-holds : tie.Need-loop-holds Inv-loop μ-loop
-loop-holds c = row-sweep-begun (search needs) (c .pre .1)
+loop-holds c = row-sweep-begun (c .pre .1)
 
 mul-word : tie.Need-mul-word Inv-loop μ-loop
 mul-word c = search needs
@@ -29,7 +28,7 @@ sweep-word-requires : tie.Need-sweep-word-requires Inv-loop μ-loop
 sweep-word-requires c κs =
     let l = c .before .before .before .before .loop in
     let s = c .before .before .before .before .before in
-    (row-locations (s .args .t2) (l .i) (s .pre .0), l .inv .swept .ready)
+    (row-locations (s .args .t2) (l .i) (s .pre .0 .0), l .inv .swept .ready)
 
 add-i : tie.Need-add-i Inv-loop μ-loop
 add-i c = search needs
@@ -41,7 +40,7 @@ loop-again : tie.Need-loop-again Inv-loop μ-loop
 loop-again c = row-sweep-next (c .before .before .before .before .before .loop .inv) (omega arith) (c .sweep-word .ensures)
 
 returns : tie.Need-returns Inv-loop μ-loop
-returns c = row-sweep-ended (c .before .loop .inv) (omega arith)
+returns c = row-sweep-ended (c .before .loop .inv) (c .before .before .pre .0 .1) (omega arith)
 
 pub level-spec : {M : Type 1} → statement M
 level-spec =

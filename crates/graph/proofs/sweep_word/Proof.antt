@@ -10,10 +10,10 @@ use Rattle.graph.proofs.sweep_word.Statement.{statement}
 use Rattle.graph.proofs.sweep_word.Tie as tie
 
 abbrev Inv-loop : tie.InvT-loop
-Inv-loop links word base block fresh₀ parent₀ depth₀ d w₀ fresh parent depth w = WordSweeping block links word base d w fresh₀ parent₀ depth₀ fresh parent depth
+Inv-loop links word base words block fresh₀ parent₀ depth₀ d w₀ fresh parent depth w = WordSweeping block links word base words d w fresh₀ parent₀ depth₀ fresh parent depth
 
 abbrev μ-loop : tie.MeasureT-loop
-μ-loop links word base block fresh₀ parent₀ depth₀ d w₀ fresh parent depth w = w
+μ-loop links word base words block fresh₀ parent₀ depth₀ d w₀ fresh parent depth w = w
 
 loop-holds : tie.Need-loop-holds Inv-loop μ-loop
 loop-holds c = word-sweep-begun (search needs) (c .pre .1)

@@ -6,7 +6,6 @@ use Prim.Native.Nat.{ℕ}
 use lib.ListN.{drop}
 use Rattle.lists.specs.Lists.{first}
 use Rattle.lists.proofs.Faults.{skip-at, stop-at, end-at}
-use Rattle.picture.specs.Layout.{edition1}
 use Rattle.picture.specs.Picture.{pictureWith}
 use Rattle.picture.specs.Faults.{listFaults, bodyFaults}
 use Rattle.picture.proofs.Finding.{tells, passes}
@@ -18,7 +17,7 @@ use Rattle.picture.proofs.body_fault.Tie as tie
 abbrev faults : tie.Else1 → List ℕ
 faults c =
     let a = c .before .before .before .args in
-    bodyFaults edition1 (a .h) (pictureWith edition1 (a .h) (a .s .now)) (a .s .now)
+    bodyFaults (a .h) (pictureWith (a .h) (a .s .now)) (a .s .now)
 
 -- none of the first k is a fault: the first of the rest is the first of all
 abbrev Past : ℕ → tie.Else1 → Type 0

@@ -5,7 +5,7 @@ use Prim.Native.Nat.{ℕ, _+_, _-_, _*_, _^_, _≤_, _<_}
 use lib.Dec.{eqb}
 use borrow.Author.Tests.{eq-eqb, ne-eqb}
 use Rattle.bits.specs.Bits.{fieldAt}
-use Rattle.picture.specs.Layout.{edition1, endAt, sizeOf}
+use Rattle.picture.specs.Layout.{endAt, sizeOf}
 use Rattle.picture.specs.Inner.{placesOf}
 use Rattle.picture.specs.declared.Header.{Header}
 use Rattle.picture.specs.declared.Places.{Places}
@@ -17,8 +17,8 @@ use Rattle.picture.proofs.end_right.Tie as tie
 
 -- what was found of the size and the end
 record Sized (h : Header) (z f : ℕ) : Type 0 where
-  pub size : z ≡ sizeOf edition1 h
-  pub end : f ≡ endAt edition1 h
+  pub size : z ≡ sizeOf h
+  pub end : f ≡ endAt h
   pub room : f ≤ z * 8
   pub tight : z * 8 ≤ f + 7
   pub small : f < 2 ^ 20
@@ -38,8 +38,8 @@ sized c =
     record { size = z; end = e; room = omega arith; tight = omega arith; small = omega arith }
 
 -- the fill bits as they were read
-fill : (c : tie.After-field) → let a = start (c .before) .args in let e = endAt edition1 (a .h) in
-    c .field .result ≡ fieldAt (a .s .now) e (sizeOf edition1 (a .h) * 8 - e)
+fill : (c : tie.After-field) → let a = start (c .before) .args in let e = endAt (a .h) in
+    c .field .result ≡ fieldAt (a .s .now) e (sizeOf (a .h) * 8 - e)
 fill c =
     let k = sized (c .before) in
     c .field .ensures ∙ ap₂ (λ (e z : ℕ). fieldAt (start (c .before) .args .s .now) e (z * 8 - e)) (k .end) (k .size)

@@ -5,7 +5,7 @@ use native.Mathlib.Omega.{arith}
 use lib.Dec.{eqb}
 use Rattle.bits.specs.Bits.{fieldAt}
 use Rattle.lists.specs.Lists.{sum}
-use Rattle.picture.specs.Layout.{edition1, endpointWidths}
+use Rattle.picture.specs.Layout.{endpointWidths}
 use Rattle.picture.specs.Inner.{placesOf}
 use Rattle.picture.specs.Picture.{Endpoint, endpointAt}
 use Rattle.picture.specs.declared.Places.{Places}
@@ -40,7 +40,7 @@ returns c =
     let k = c .before .before .before .before in
     let a = k .args in
     let read = ap (λ (p : Places). fieldAt (a .s .now) (p .endpoints + (a .c - 1) * 17 + 16) 1) (c .before .before .find-places .ensures) in
-    let row = endpoint-row edition1 (a .h) (a .s .now) (a .c) (k .pre .1) (k .pre .2) in
+    let row = endpoint-row (a .h) (a .s .now) (a .c) (k .pre .1) (k .pre .2) in
     ap (λ (x : ℕ). eqb x 1) (c .field .ensures ∙ read ∙ sym (field-second _ _ _ _ _)) ∙ sym (ap (λ (x : Endpoint). x .protected) row)
 
 pub endpoint-protected-spec : {M : Type 1} → statement M

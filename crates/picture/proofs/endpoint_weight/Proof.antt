@@ -4,7 +4,7 @@ use Prim.Native.Nat.{_+_, _-_, _*_}
 use native.Mathlib.Omega.{arith}
 use Rattle.bits.specs.Bits.{fieldAt}
 use Rattle.lists.specs.Lists.{sum}
-use Rattle.picture.specs.Layout.{edition1, endpointWidths}
+use Rattle.picture.specs.Layout.{endpointWidths}
 use Rattle.picture.specs.Inner.{placesOf}
 use Rattle.picture.specs.Picture.{Endpoint, endpointAt}
 use Rattle.picture.specs.declared.Places.{Places}
@@ -35,7 +35,7 @@ returns c =
     let a = c .before .before .before .before .args in
     let pre = c .before .before .before .before .pre in
     c .field .ensures ∙ ap (λ (p : Places). fieldAt (a .s .now) (p .endpoints + (a .c - 1) * 17) 16) (c .before .before .find-places .ensures)
-    ∙ sym (ap (λ (x : Endpoint). x .weight) (endpoint-row edition1 (a .h) (a .s .now) (a .c) (pre .1) (pre .2)) ∙ field-first _ _ _ _)
+    ∙ sym (ap (λ (x : Endpoint). x .weight) (endpoint-row (a .h) (a .s .now) (a .c) (pre .1) (pre .2)) ∙ field-first _ _ _ _)
 
 pub endpoint-weight-spec : {M : Type 1} → statement M
 endpoint-weight-spec =

@@ -1,7 +1,6 @@
 -- `links_fault` finds the first link that names what is not there. Assumes nothing.
 use Prim.Native.Nat.{_-_}
 use native.Mathlib.Omega.{arith}
-use Rattle.picture.specs.Layout.{edition1}
 use Rattle.picture.specs.Picture.{pictureWith}
 use Rattle.picture.specs.Faults.{linkFault}
 use Rattle.picture.specs.Rules.{noLink}
@@ -12,13 +11,13 @@ use Rattle.picture.proofs.links_fault.Statement.{statement}
 use Rattle.picture.proofs.links_fault.Tie as tie
 
 abbrev Inv-loop : tie.InvT-loop
-Inv-loop s h count i₀ i = Scanning (linkFault (h .slots)) noLink (pictureWith edition1 h s .links) (h .links) i
+Inv-loop s h count i₀ i = Scanning (linkFault (h .slots)) noLink (pictureWith h s .links) (h .links) i
 
 abbrev μ-loop : tie.MeasureT-loop
 μ-loop s h count i₀ i = h .links - i
 
 loop-holds : tie.Need-loop-holds Inv-loop μ-loop
-loop-holds c = scanning-begun (links-length edition1 _ _)
+loop-holds c = scanning-begun (links-length _ _)
 
 nth-link-requires : tie.Need-nth-link-requires Inv-loop μ-loop
 nth-link-requires c κs = search needs

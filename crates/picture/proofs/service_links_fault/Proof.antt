@@ -1,7 +1,6 @@
 -- `service_links_fault` finds the first service link that names what is not there. Assumes nothing.
 use Prim.Native.Nat.{_-_}
 use native.Mathlib.Omega.{arith}
-use Rattle.picture.specs.Layout.{edition1}
 use Rattle.picture.specs.Picture.{pictureWith}
 use Rattle.picture.specs.Faults.{serviceLinkFault}
 use Rattle.picture.specs.Rules.{noLink}
@@ -12,13 +11,13 @@ use Rattle.picture.proofs.service_links_fault.Statement.{statement}
 use Rattle.picture.proofs.service_links_fault.Tie as tie
 
 abbrev Inv-loop : tie.InvT-loop
-Inv-loop s h count i₀ i = Scanning (serviceLinkFault (h .slots) (h .endpoints)) noLink (pictureWith edition1 h s .serviceLinks) (h .«service_links») i
+Inv-loop s h count i₀ i = Scanning (serviceLinkFault (h .slots) (h .endpoints)) noLink (pictureWith h s .serviceLinks) (h .«service_links») i
 
 abbrev μ-loop : tie.MeasureT-loop
 μ-loop s h count i₀ i = h .«service_links» - i
 
 loop-holds : tie.Need-loop-holds Inv-loop μ-loop
-loop-holds c = scanning-begun (services-length edition1 _ _)
+loop-holds c = scanning-begun (services-length _ _)
 
 nth-service-link-requires : tie.Need-nth-service-link-requires Inv-loop μ-loop
 nth-service-link-requires c κs = search needs

@@ -4,19 +4,19 @@ use mathlib.Core.Bool.{_&&_}
 use Prim.Native.Nat.{_/_, _%_}
 use lib.Dec.{eqb, leb}
 use borrow.Author.Tests.{lt-leb, le-leb, eq-eqb, ne-eqb}
-use Rattle.picture.specs.Layout.{edition1, blocksMax}
+use Rattle.picture.specs.Layout.{blocksMax}
 use Rattle.picture.specs.Faults.{sizesRight}
 use borrow.Author.Needs.{needs}
 use Rattle.picture.proofs.sizes_right.Statement.{statement}
 use Rattle.picture.proofs.sizes_right.Tie as tie
 
 -- what is left to test, where the limits of β and n hold
-limits : (c : tie.Else4) → let h = c .before .before .before .before .args .h in
-    sizesRight edition1 h ≡ (eqb (h .slots % h .«block_size») 0 && leb (h .slots / h .«block_size») blocksMax)
+limits : (c : tie.Else4) → let h = c .before .before .before .before .before .before .args .h in
+    sizesRight h ≡ (eqb (h .slots % h .«block_size») 0 && leb (h .slots / h .«block_size») blocksMax)
 unfolding sizesRight
 limits c =
-    let k = c .before in
-    rw (le-leb _ _ (k .before .before .if1 .left), le-leb _ _ (k .before .if2 .left), le-leb _ _ (k .if3 .left), le-leb _ _ (c .if4 .left))
+    let k = c .before .before in
+    rw (le-leb _ _ (k .before .before .before .if1 .left), le-leb _ _ (k .before .if2 .left), le-leb _ _ (k .if3 .left), le-leb _ _ (c .if4 .left))
 
 returns : tie.Need-returns
 unfolding sizesRight
@@ -24,17 +24,17 @@ returns c = rw (lt-leb _ _ (c .if1 .taken))
 
 returns-2 : tie.Need-returns-2
 unfolding sizesRight
-returns-2 c = rw (le-leb _ _ (c .before .if1 .left), lt-leb _ _ (c .if2 .taken))
+returns-2 c = rw (le-leb _ _ (c .before .before .if1 .left), lt-leb _ _ (c .if2 .taken))
 
 returns-3 : tie.Need-returns-3
 unfolding sizesRight
-returns-3 c = rw (le-leb _ _ (c .before .before .if1 .left), le-leb _ _ (c .before .if2 .left), lt-leb _ _ (c .if3 .taken))
+returns-3 c = rw (le-leb _ _ (c .before .before .before .if1 .left), le-leb _ _ (c .before .if2 .left), lt-leb _ _ (c .if3 .taken))
 
 returns-4 : tie.Need-returns-4
 unfolding sizesRight
 returns-4 c =
-    let k = c .before in
-    rw (le-leb _ _ (k .before .before .if1 .left), le-leb _ _ (k .before .if2 .left), le-leb _ _ (k .if3 .left), lt-leb _ _ (c .if4 .taken))
+    let k = c .before .before in
+    rw (le-leb _ _ (k .before .before .before .if1 .left), le-leb _ _ (k .before .if2 .left), le-leb _ _ (k .if3 .left), lt-leb _ _ (c .if4 .taken))
 
 rem-if5 : tie.Need-rem-if5
 rem-if5 c = search needs

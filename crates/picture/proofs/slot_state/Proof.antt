@@ -1,31 +1,27 @@
--- `slot_state` reads a slot's state. Assumes nothing.
+-- `slot_state` reads a slot's first field. Assumes nothing.
 use mathlib.Core.Path.{sym, ap, _∙_}
-use Rattle.lists.specs.Lists.{sum}
-use Rattle.picture.specs.Layout.{edition1, slotsAt, headerWidths, slotWidths}
-use Rattle.picture.specs.Picture.{Slot, slotAt}
-use Rattle.picture.proofs.Starts.{field-first, slot-row}
+use Prim.Native.Nat.{ℕ}
 use borrow.Author.Needs.{needs}
+use Rattle.bits.specs.Bits.{fieldAt}
+use Rattle.picture.specs.Layout.{slotWidths, stateBits}
+use Rattle.picture.specs.Picture.{Slot, slotAt}
+use Rattle.picture.proofs.Starts.{slot-row, field-first}
 use Rattle.picture.proofs.slot_state.Statement.{statement}
 use Rattle.picture.proofs.slot_state.Tie as tie
 
-sub-field : tie.Need-sub-field
-sub-field c = search needs
-
-mul-field : tie.Need-mul-field
-mul-field c = search needs
-
-add-field : tie.Need-add-field
-add-field c = search needs
+slot-at-requires : tie.Need-slot-at-requires
+slot-at-requires c κs = search needs
 
 field-requires : tie.Need-field-requires
 field-requires c κs = search needs
 
 returns : tie.Need-returns
-unfolding slotAt slotsAt headerWidths slotWidths sum
+unfolding slotAt slotWidths
 returns c =
-    let a = c .before .before .args in
-    let pre = c .before .before .pre in
-    c .field .ensures ∙ sym (ap (λ (x : Slot). x .state) (slot-row edition1 (a .h) (a .s .now) (a .v) (pre .1) (pre .2)) ∙ field-first _ _ _ _)
+    let a = c .before .before .before .args in
+    let pre = c .before .before .before .pre in
+    c .field .ensures ∙ ap (λ (p : ℕ). fieldAt (a .s .now) p stateBits) (c .before .slot-at .ensures)
+    ∙ sym (ap (λ (x : Slot). x .state) (slot-row (a .h) (a .s .now) (a .v) (pre .1) (pre .2)) ∙ field-first _ _ _ _)
 
 pub slot-state-spec : {M : Type 1} → statement M
-slot-state-spec = tie.close (tie.spec sub-field mul-field add-field field-requires returns)
+slot-state-spec = tie.close (tie.spec slot-at-requires field-requires returns)

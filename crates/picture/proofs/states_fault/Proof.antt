@@ -4,7 +4,6 @@ use mathlib.Core.Bool.{false}
 use Prim.Native.Nat.{_-_}
 use native.Mathlib.Omega.{arith}
 use lib.ListN.{getD}
-use Rattle.picture.specs.Layout.{edition1}
 use Rattle.picture.specs.Picture.{Slot, pictureWith, slotOf}
 use Rattle.picture.specs.Faults.{stateFault}
 use Rattle.picture.proofs.Starts.{item-next, slots-length}
@@ -18,19 +17,19 @@ abbrev none : Slot
 none = record { state = 2; near = false }
 
 abbrev Inv-loop : tie.InvT-loop
-Inv-loop s h n i₀ i = Scanning (λ q. stateFault (q .state)) none (pictureWith edition1 h s .slots) (h .slots) i
+Inv-loop s h n i₀ i = Scanning (λ q. stateFault (q .state)) none (pictureWith h s .slots) (h .slots) i
 
 abbrev μ-loop : tie.MeasureT-loop
 μ-loop s h n i₀ i = h .slots - i
 
 -- the fault of the slot at hand, by the state that was read
 fault : (c : tie.After-state-fault Inv-loop μ-loop) → let l = c .before .before .before in let a = l .before .before .args in
-    c .state-fault .result ≡ stateFault (getD (pictureWith edition1 (a .h) (a .s .now) .slots) (l .loop .i) none .state)
+    c .state-fault .result ≡ stateFault (getD (pictureWith (a .h) (a .s .now) .slots) (l .loop .i) none .state)
 unfolding slotOf
 fault c = c .state-fault .ensures ∙ ap stateFault (rw item-next at (c .before .slot-state .ensures))
 
 loop-holds : tie.Need-loop-holds Inv-loop μ-loop
-loop-holds c = scanning-begun (slots-length edition1 _ _)
+loop-holds c = scanning-begun (slots-length _ _)
 
 add-slot-state : tie.Need-add-slot-state Inv-loop μ-loop
 add-slot-state c = search needs

@@ -5,8 +5,8 @@ use borrow.Author.Needs.{needs}
 use Rattle.rows.proofs.add.Statement.{statement}
 use Rattle.rows.proofs.add.Tie as tie
 
-four-words-requires : tie.Need-four-words-requires
-four-words-requires c κs = search needs
+all-words-requires : tie.Need-all-words-requires
+all-words-requires c κs = search needs
 
 mul-w : tie.Need-mul-w
 mul-w c = search needs
@@ -29,4 +29,4 @@ returns c = let a = c .before .before .before .args in record { marks = with-mar
 pub add-spec : {M : Type 1} → statement M
 add-spec =
     tie.close
-    (tie.spec four-words-requires mul-w element-copy-out-w shl-row mul-row element-write-row returns)
+    (tie.spec all-words-requires mul-w element-copy-out-w shl-row mul-row element-write-row returns)

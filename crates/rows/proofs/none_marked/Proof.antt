@@ -3,29 +3,27 @@ use mathlib.Core.List.{List}
 use mathlib.Core.Path.{_≡_}
 use Prim.Native.Nat.{ℕ, _-_, _≤_, _<_}
 use native.Mathlib.Omega.{arith}
-use Rattle.rows.specs.Rows.{rowWords}
 use borrow.Author.Count.{below-more}
 use borrow.Author.Needs.{needs}
-use lib.ListN.{length, getD}
+use lib.ListN.{getD}
 use mir.Syntax.{w64}
 use mir.Val.{Fits}
 use Rattle.rows.proofs.Marks.{none-marked, some-marked}
 use Rattle.rows.proofs.none_marked.Statement.{statement}
 use Rattle.rows.proofs.none_marked.Tie as tie
 
-record Passing (row : List ℕ) (i : ℕ) : Type 0 where
-  pub low : i ≤ rowWords
-  pub rows : length row ≡ rowWords
+record Passing (words : ℕ) (row : List ℕ) (i : ℕ) : Type 0 where
+  pub low : i ≤ words
   pub zeros : (j : ℕ) → j < i → getD row j 0 ≡ 0
 
 abbrev Inv-loop : tie.InvT-loop
-Inv-loop row i₀ i = Passing row i
+Inv-loop words row i₀ i = Passing words row i
 
 abbrev μ-loop : tie.MeasureT-loop
-μ-loop row i₀ i = rowWords - i
+μ-loop words row i₀ i = words - i
 
 loop-holds : tie.Need-loop-holds Inv-loop μ-loop
-loop-holds c = record { low = search needs; rows = search needs; zeros = search needs }
+loop-holds c = record { low = search needs; zeros = search needs }
 
 mul-if1 : tie.Need-mul-if1 Inv-loop μ-loop
 mul-if1 c = search needs
@@ -46,15 +44,10 @@ loop-less : tie.Need-loop-less Inv-loop μ-loop
 loop-less c = search needs
 
 loop-again : tie.Need-loop-again Inv-loop μ-loop
-loop-again c =
-    let l = c .before .before .loop in
-    record { low = search needs; rows = l .inv .rows; zeros = below-more _ _ (l .inv .zeros) (search needs) }
+loop-again c = record { low = search needs; zeros = below-more _ _ (c .before .before .loop .inv .zeros) (search needs) }
 
 returns-2 : tie.Need-returns-2 Inv-loop μ-loop
-returns-2 c =
-    let l = c .before .loop in
-    let e : l .i ≡ rowWords = omega arith in
-    record { empty = λ _. none-marked _ rowWords (omega (arith, l .inv .rows)) (rw e at (l .inv .zeros)); some = λ t. absurd t }
+returns-2 c = record { empty = λ _. none-marked (c .before .before .pre) (omega arith) (c .before .loop .inv .zeros); some = λ t. absurd t }
 
 pub none-marked-spec : {M : Type 1} → statement M
 none-marked-spec =
