@@ -90,22 +90,22 @@ module _ (a : Act) (bs : List ℕ) (b : ℕ) (ok : pictureFault bs ≡ 0) (there
   -- ---- fields
 
   -- a field that starts behind the slots or ends before them
-  apart : (q u : ℕ) → (q + u ≤ slotsAt edition1) ⊎ (endpointsAt edition1 h ≤ q) → fieldAt done q u ≡ fieldAt bs q u
+  apart : (q u : ℕ) → (q + u ≤ slotsAt edition1) ⊎ (endpointsAt h ≤ q) → fieldAt done q u ≡ fieldAt bs q u
   unfolding stateAt endpointsAt slotWidths sum
   apart q u o = rw bytes (field-beside edition1 states bs q u (b * size) size room (λ j l s. place o j s))
     where
-      place : (q + u ≤ slotsAt edition1) ⊎ (endpointsAt edition1 h ≤ q) → (j : ℕ) → j < b * size + size → (q + u ≤ stateAt edition1 j) ⊎ (stateAt edition1 j + 2 ≤ q)
+      place : (q + u ≤ slotsAt edition1) ⊎ (endpointsAt h ≤ q) → (j : ℕ) → j < b * size + size → (q + u ≤ stateAt edition1 j) ⊎ (stateAt edition1 j + 2 ≤ q)
       place (inl x) j s = inl (omega arith)
       place (inr x) j s = inr (omega (arith, fits))
 
   in-header : (q u : ℕ) → q + u ≤ slotsAt edition1 → fieldAt done q u ≡ fieldAt bs q u
   in-header q u l = apart q u (inl l)
 
-  behind : (ws : List ℕ) (q k : ℕ) → endpointsAt edition1 h ≤ q → fieldIn done ws q k ≡ fieldIn bs ws q k
+  behind : (ws : List ℕ) (q k : ℕ) → endpointsAt h ≤ q → fieldIn done ws q k ≡ fieldIn bs ws q k
   unfolding fieldIn
   behind ws q k l = apart (q + sum (take k ws)) (getD ws k 0) (inr (omega arith))
 
-  bit-behind : (m : ℕ) → endpointsAt edition1 h ≤ m → bitAt done m ≡ bitAt bs m
+  bit-behind : (m : ℕ) → endpointsAt h ≤ m → bitAt done m ≡ bitAt bs m
   unfolding stateAt endpointsAt slotWidths sum
   bit-behind m l = rw bytes (bit-beside edition1 states bs m (b * size) size room (λ j i s. inr (omega (arith, fits))))
 
@@ -191,23 +191,23 @@ module _ (a : Act) (bs : List ℕ) (b : ℕ) (ok : pictureFault bs ≡ 0) (there
 
   -- ---- the parts behind the slots
 
-  endpoint-same : (q : ℕ) → endpointsAt edition1 h ≤ q → endpointAt done q ≡ endpointAt bs q
+  endpoint-same : (q : ℕ) → endpointsAt h ≤ q → endpointAt done q ≡ endpointAt bs q
   unfolding endpointAt
   endpoint-same q l = λ i. record { weight = behind endpointWidths q 0 l i; protected = eqb (behind endpointWidths q 1 l i) 1 }
 
-  link-same : (ws : List ℕ) (q : ℕ) → endpointsAt edition1 h ≤ q → linkAt ws done q ≡ linkAt ws bs q
+  link-same : (ws : List ℕ) (q : ℕ) → endpointsAt h ≤ q → linkAt ws done q ≡ linkAt ws bs q
   unfolding linkAt
   link-same ws q l = λ i. record { from = behind ws q 0 l i; to = behind ws q 1 l i }
 
-  links-behind : endpointsAt edition1 h ≤ linksAt edition1 h
+  links-behind : endpointsAt h ≤ linksAt h
   unfolding linksAt
   links-behind = omega arith
 
-  services-behind : endpointsAt edition1 h ≤ serviceLinksAt edition1 h
+  services-behind : endpointsAt h ≤ serviceLinksAt h
   unfolding serviceLinksAt linksAt
   services-behind = omega arith
 
-  end-behind : endpointsAt edition1 h ≤ endAt edition1 h
+  end-behind : endpointsAt h ≤ endAt h
   unfolding endAt serviceLinksAt linksAt
   end-behind = omega arith
 
@@ -215,16 +215,16 @@ module _ (a : Act) (bs : List ℕ) (b : ℕ) (ok : pictureFault bs ≡ 0) (there
   pub acted-picture : pictureOf (doneBytes a bs b) ≡ actOn a (pictureOf bs) b
   unfolding pictureOf pictureWith actOn
   acted-picture =
-      ap (λ (k : Header). pictureWith edition1 k done) acted-header
+      ap (λ (k : Header). pictureWith k done) acted-header
       ∙ (λ i.
       record {
         blockSize = h .«block_size»;
         nearLimit = h .«near_limit»;
         slots = slots-after i;
-        endpoints = rows-from (endpointAt done) (endpointAt bs) (endpointsAt edition1 h) (sum endpointWidths) (h .endpoints) endpoint-same i;
-        links = rows-from (linkAt (linkWidths edition1) done) (linkAt (linkWidths edition1) bs) (linksAt edition1 h) (sum (linkWidths edition1)) (h .links)
+        endpoints = rows-from (endpointAt done) (endpointAt bs) (endpointsAt h) (sum endpointWidths) (h .endpoints) endpoint-same i;
+        links = rows-from (linkAt (linkWidths edition1) done) (linkAt (linkWidths edition1) bs) (linksAt h) (sum (linkWidths edition1)) (h .links)
             (λ x l. link-same (linkWidths edition1) x (le-trans links-behind l)) i;
-        serviceLinks = rows-from (linkAt (serviceLinkWidths edition1) done) (linkAt (serviceLinkWidths edition1) bs) (serviceLinksAt edition1 h) (sum (serviceLinkWidths edition1)) (h .«service_links»)
+        serviceLinks = rows-from (linkAt (serviceLinkWidths edition1) done) (linkAt (serviceLinkWidths edition1) bs) (serviceLinksAt h) (sum (serviceLinkWidths edition1)) (h .«service_links»)
             (λ x l. link-same (serviceLinkWidths edition1) x (le-trans services-behind l)) i;
       })
 

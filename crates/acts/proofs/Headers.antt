@@ -42,15 +42,15 @@ module _ (bs : List ℕ) (h : Header) (r : Read bs h) where
   slots-all k l m = omega (arith, read-slots bs h r)
 
   -- a state that is read with the header is the picture's
-  pub read-state : (v : ℕ) {x : ℕ} → x ≡ slotOf (pictureWith edition1 h bs) v .state → x ≡ slotOf (pictureOf bs) v .state
+  pub read-state : (v : ℕ) {x : ℕ} → x ≡ slotOf (pictureWith h bs) v .state → x ≡ slotOf (pictureOf bs) v .state
   read-state v e = e ∙ ap (λ (p : Picture). slotOf p v .state) (read-picture bs h r)
 
-  pub read-near : (v : ℕ) {x : Bool} → x ≡ slotOf (pictureWith edition1 h bs) v .near → x ≡ slotOf (pictureOf bs) v .near
+  pub read-near : (v : ℕ) {x : Bool} → x ≡ slotOf (pictureWith h bs) v .near → x ≡ slotOf (pictureOf bs) v .near
   read-near v e = e ∙ ap (λ (p : Picture). slotOf p v .near) (read-picture bs h r)
 
   -- the bytes are as many as the header asks for
-  pub read-long : sizeOf edition1 h ≤ length bs
-  read-long = subst (λ (k : Header). sizeOf edition1 k ≤ length bs) (sym (r .header)) (accepted-kept bs (r .accepted) .long)
+  pub read-long : sizeOf h ≤ length bs
+  read-long = subst (λ (k : Header). sizeOf k ≤ length bs) (sym (r .header)) (accepted-kept bs (r .accepted) .long)
 
   -- κ
   pub read-near-limit : h .«near_limit» ≡ pictureOf bs .nearLimit

@@ -7,8 +7,9 @@ use native.Mathlib.Omega.{arith}
 use lib.ListN.{length}
 use Rattle.bits.specs.Bits.{fieldAt, putField}
 use Rattle.lists.specs.Lists.{range, sum}
+use Rattle.picture.specs.declared.Edition.{Edition}
 use Rattle.picture.specs.declared.Header.{Header}
-use Rattle.picture.specs.Layout.{Edition, edition1, slotWidths, slotsAt, endpointsAt}
+use Rattle.picture.specs.Layout.{edition1, slotWidths, slotsAt, endpointsAt}
 use Rattle.picture.specs.Picture.{Slot, Picture, pictureOf, pictureWith, slotAt, slotOf}
 use Rattle.picture.specs.Inner.{Read}
 use Rattle.picture.proofs.Starts.{field-first, slot-row, ordered, rounded}
@@ -25,12 +26,12 @@ unfolding stateAt slotWidths sum
 field-before-states e f bs i k q u l m = field-beside e f bs q u i k m (λ j a s. inl (omega arith))
 
 -- a slot's state is the first field of its row
-pub state-field : (h : Header) (bs : List ℕ) (i : ℕ) → i < h .slots → slotOf (pictureWith edition1 h bs) (suc i) .state ≡ fieldAt bs (slotsAt edition1 + i * sum slotWidths) 2
+pub state-field : (h : Header) (bs : List ℕ) (i : ℕ) → i < h .slots → slotOf (pictureWith h bs) (suc i) .state ≡ fieldAt bs (slotsAt edition1 + i * sum slotWidths) 2
 unfolding slotAt slotWidths
 state-field h bs i l =
     let some : 1 ≤ suc i = omega arith in
     let less : suc i - 1 ≡ i = omega arith in
-    ap (λ (x : Slot). x .state) (slot-row edition1 h bs (suc i) some l) ∙ field-first bs 2 _ _ ∙ ap (λ (j : ℕ). fieldAt bs (slotsAt edition1 + j * sum slotWidths) 2) less
+    ap (λ (x : Slot). x .state) (slot-row h bs (suc i) some l) ∙ field-first bs 2 _ _ ∙ ap (λ (j : ℕ). fieldAt bs (slotsAt edition1 + j * sum slotWidths) 2) less
 
 -- the state that a slot is to take
 abbrev pub state-after : Act → List ℕ → ℕ → ℕ
@@ -44,14 +45,14 @@ module _ (a : Act) (bs : List ℕ) (h : Header) (r : Read bs h) where
 
   -- the slot before a range of slots that are written, and then the range is one longer
   put-one : (i k : ℕ) (now next : List ℕ) → i + suc k ≤ h .slots → now ≡ putStates edition1 (state-after a bs) bs (range (suc (suc i)) k)
-      → next ≡ putField now (slotsAt edition1 + i * sum slotWidths) 2 (after a (slotOf (pictureWith edition1 h now) (suc i) .state))
+      → next ≡ putField now (slotsAt edition1 + i * sum slotWidths) 2 (after a (slotOf (pictureWith h now) (suc i) .state))
       → next ≡ putStates edition1 (state-after a bs) bs (range (suc i) (suc k))
   unfolding stateAt
   put-one i k now next l e n =
       let within : i < h .slots = omega arith in
       let fits : suc i + k ≤ h .slots = omega arith in
       let before : slotsAt edition1 + i * sum slotWidths + 2 ≤ slotsAt edition1 + suc i * sum slotWidths = unfold slotWidths in unfold sum in omega arith in
-      let same : slotOf (pictureWith edition1 h now) (suc i) .state ≡ slotOf (pictureOf bs) (suc i) .state =
+      let same : slotOf (pictureWith h now) (suc i) .state ≡ slotOf (pictureOf bs) (suc i) .state =
       state-field h now i within ∙ ap (λ (z : List ℕ). fieldAt z (slotsAt edition1 + i * sum slotWidths) 2) e
       ∙ field-before-states edition1 (state-after a bs) bs (suc i) k _ 2 before (rows-fit _ fits)
       ∙ sym (state-field h bs i within) ∙ ap (λ (p : Picture). slotOf p (suc i) .state) (read-picture bs h r) in
@@ -67,7 +68,7 @@ module _ (a : Act) (bs : List ℕ) (h : Header) (r : Read bs h) where
 
   pub put-next : (b k : ℕ) (now next : List ℕ) → 0 < k → k ≤ h .«block_size» → b * h .«block_size» + h .«block_size» ≤ h .slots
       → now ≡ putStates edition1 (state-after a bs) bs (range (suc (b * h .«block_size» + k)) (h .«block_size» - k))
-      → next ≡ putField now (slotsAt edition1 + (b * h .«block_size» + k - 1) * sum slotWidths) 2 (after a (slotOf (pictureWith edition1 h now) (b * h .«block_size» + k) .state))
+      → next ≡ putField now (slotsAt edition1 + (b * h .«block_size» + k - 1) * sum slotWidths) 2 (after a (slotOf (pictureWith h now) (b * h .«block_size» + k) .state))
       → next ≡ putStates edition1 (state-after a bs) bs (range (suc (b * h .«block_size» + (k - 1))) (h .«block_size» - (k - 1)))
   put-next b k now next some most last e n =
       let i : ℕ = b * h .«block_size» + (k - 1) in
@@ -76,7 +77,7 @@ module _ (a : Act) (bs : List ℕ) (h : Header) (r : Read bs h) where
       let place : b * h .«block_size» + k - 1 ≡ i = omega arith in
       let more : suc j ≡ h .«block_size» - (k - 1) = omega arith in
       put-one i j now next (omega arith) (e ∙ ap (λ (v : ℕ). putStates edition1 (state-after a bs) bs (range (suc v) j)) slot)
-      (n ∙ ap₂ (λ (u v : ℕ). putField now (slotsAt edition1 + u * sum slotWidths) 2 (after a (slotOf (pictureWith edition1 h now) v .state))) place slot)
+      (n ∙ ap₂ (λ (u v : ℕ). putField now (slotsAt edition1 + u * sum slotWidths) 2 (after a (slotOf (pictureWith h now) v .state))) place slot)
       ∙ ap (λ (m : ℕ). putStates edition1 (state-after a bs) bs (range (suc i) m)) more
 
   pub put-ended : (b k : ℕ) → k ≡ 0 → putStates edition1 (state-after a bs) bs (range (suc (b * h .«block_size» + k)) (h .«block_size» - k)) ≡ doneBytes a bs b

@@ -10,7 +10,8 @@ use Rattle.bits.specs.Bits.{bitAt, fieldAt, putField}
 use Rattle.bits.proofs.Reading.{number-ext}
 use Rattle.bits.proofs.Writing.{length-putField, putField-out, field-put, field-put-other}
 use Rattle.lists.specs.Lists.{range, sum}
-use Rattle.picture.specs.Layout.{Edition, slotWidths}
+use Rattle.picture.specs.declared.Edition.{Edition}
+use Rattle.picture.specs.Layout.{slotWidths}
 use Rattle.acts.specs.Acts.{stateAt, putStates}
 
 module _ (e : Edition) (f : ℕ → ℕ) (bs : List ℕ) where

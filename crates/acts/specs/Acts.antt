@@ -6,7 +6,8 @@ use lib.Dec.{T, eqb}
 use lib.ListN.{length}
 use Rattle.bits.specs.Bits.{putField}
 use Rattle.lists.specs.Lists.{range, sum, filter}
-use Rattle.picture.specs.Layout.{Edition, editionOf, stateBits, slotWidths, slotsAt}
+use Rattle.picture.specs.declared.Edition.{Edition}
+use Rattle.picture.specs.Layout.{editionOf, stateBits, slotWidths, slotsAt}
 use Rattle.picture.specs.Picture.{Picture, Slot, pictureOf, slotOf}
 use Rattle.network.specs.Words.{slotCount, inBlock}
 use Rattle.network.specs.Tests.{isNearHeld}

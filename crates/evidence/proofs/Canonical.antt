@@ -7,7 +7,8 @@ use native.Mathlib.Omega.{arith}
 use lib.ListN.{length, getD}
 use Rattle.graph.specs.Kept.{ForestKept}
 use Rattle.graph.proofs.Keeping.{forest-kept}
-use Rattle.picture.specs.Layout.{Edition}
+use Rattle.picture.specs.declared.Edition.{Edition}
+use Rattle.picture.specs.Layout.{}
 use Rattle.picture.specs.Picture.{Picture, pictureOf}
 use Rattle.picture.specs.Faults.{pictureFault}
 use Rattle.network.specs.Words.{slotCount, isHeld, heldWithout, joins, Named}

@@ -5,6 +5,7 @@ use mathlib.Core.Logic.{⊎-elim}
 use mathlib.Core.List.{List, [], _∷_, _++_, map}
 use Prim.Native.Nat.{ℕ, suc, _+_, _*_, _^_, _≤_, _<_}
 use native.Mathlib.Omega.{arith}
+use native.Mathlib.Nat.{div-add-mod'}
 use lib.ListN.{length, getD}
 use Rattle.lists.specs.Lists.{range, sum, flat}
 use Rattle.lists.proofs.Filters.{length-filter-le}
@@ -17,10 +18,13 @@ use Rattle.rows.specs.Rows.{slotsMax}
 use Rattle.graph.specs.declared.Node.{Node}
 use Rattle.graph.specs.Rounds.{forest}
 use Rattle.graph.proofs.Nodes.{length-forest, forest-at, parent-le, depth-le}
-use Rattle.picture.specs.Layout.{Edition, edition1, editionOf, blocksMax}
-use Rattle.picture.specs.Picture.{Picture, headerOf, pictureOf}
+use Rattle.picture.specs.declared.Edition.{Edition}
+use Rattle.picture.specs.Layout.{edition2, editionOf, editionNumber, blocksMax}
+use Rattle.picture.specs.Picture.{Picture, headerIn, headerOf, pictureOf}
 use Rattle.picture.specs.Faults.{pictureFault}
-use Rattle.picture.specs.Inner.{Read}
+use Rattle.picture.specs.Inner.{Read, Known}
+use Rattle.picture.proofs.Editions.{known-for, widths}
+use Rattle.picture.proofs.Facts.{read-slots-most}
 use Rattle.picture.proofs.Accepted.{accepted-kept}
 use Rattle.network.specs.Words.{slotCount, blockCount, isHeld, heldWithout, joins}
 use Rattle.network.specs.declared.Cost.{Cost}
@@ -100,7 +104,7 @@ module _ (e : Edition) (p : Picture) where
 
 -- ---- each value fits its width
 
-pub forest-fits : (e : Edition) (p : Picture) → slotCount p < 2 ^ e .locationBits → (held : ℕ → Bool) → Fit (forestFields e (forestOf p held))
+pub forest-fits : (e : Edition) (p : Picture) → slotCount p < 2 ^ e .«location_bits» → (held : ℕ → Bool) → Fit (forestFields e (forestOf p held))
 unfolding forestFields forestOf nodeFields nodeWidths fieldsOf Fit
 forest-fits e p room held =
     let j = joins (p .links) in
@@ -115,16 +119,41 @@ module _ (bs : List ℕ) (z : pictureFault bs ≡ 0) where
   abbrev read : Read bs (headerOf bs)
   read = record { accepted = z; header = refl }
 
-  -- n is below 256, so that a location fits
+  abbrev e : Edition
+  e = editionOf bs
+
+  abbrev known : Known e
+  known = known-for (editionNumber bs)
+
+  -- n is small enough for the rows, and for the width of a location
   pub slots-small : slotCount (pictureOf bs) ≤ slotsMax
-  slots-small = omega (arith, slots-counted bs, accepted-kept bs z .sizes .slots-most)
+  slots-small = omega (arith, slots-counted bs, read-slots-most bs (headerOf bs) read)
+
+  pub slots-fit : slotCount (pictureOf bs) < 2 ^ editionOf bs .«location_bits»
+  unfolding headerOf headerIn
+  slots-fit = omega (arith, slots-counted bs, accepted-kept bs z .sizes .slots-most, widths known .slots-fit)
 
   pub blocks-small : blockCount (pictureOf bs) ≤ blocksMax
   blocks-small = omega (arith, read-blocks bs (headerOf bs) read, accepted-kept bs z .sizes .blocks-most)
 
-  pub candidates-few : length (candidates (pictureOf bs)) ≤ blocksMax
+  pub candidates-within : length (candidates (pictureOf bs)) ≤ blockCount (pictureOf bs)
   unfolding candidates
-  candidates-few = omega (arith, length-filter-le (isCandidate p) (range 0 (blockCount p)), length-range 0 (blockCount p), blocks-small)
+  candidates-within = omega (arith, length-filter-le (isCandidate p) (range 0 (blockCount p)), length-range 0 (blockCount p))
+
+  pub candidates-few : length (candidates (pictureOf bs)) ≤ blocksMax
+  candidates-few = omega (arith, candidates-within, blocks-small)
+
+  -- blocks of one size take all slots
+  pub blocks-whole : blockCount (pictureOf bs) * headerOf bs .«block_size» ≡ slotCount (pictureOf bs)
+  blocks-whole =
+      let h = headerOf bs in
+      omega (
+        arith,
+        div-add-mod' (h .slots) (h .«block_size»),
+        ap (λ (b : ℕ). b * h .«block_size») (read-blocks bs h read),
+        accepted-kept bs z .sizes .multiple,
+        slots-counted bs,
+      )
 
   pub served-small : servedWeight (pictureOf bs) < 2 ^ 24
   unfolding servedWeight
@@ -153,35 +182,35 @@ module _ (bs : List ℕ) (z : pictureFault bs ≡ 0) where
       (λ r. rw (r .same) (omega arith, omega arith, omega arith))
       (least-right (weighings p))
 
-  head-fits : Fit (head-of edition1 p)
+  head-fits : Fit (head-of e p)
   unfolding headFields headWidths fieldsOf Fit
   head-fits =
       let c = choice-fits in
-      (omega arith, (omega arith, (omega arith, (omega (arith, weighings-length p, candidates-few), (served-small, (c .2, tt))))))
+      (widths known .number-fits, (omega arith, (omega arith, (omega (arith, weighings-length p, candidates-few), (served-small, (c .2, tt))))))
 
-  section-fits : (i : ℕ) → i < length (weighings p) → Fit (sectionFields edition1 p (getD (weighings p) i noCost))
+  section-fits : (i : ℕ) → i < length (weighings p) → Fit (sectionFields e p (getD (weighings p) i noCost))
   unfolding sectionFields sectionHeadWidths fieldsOf Fit
   section-fits i h =
-      (omega (arith, block-at i h), (loss-at i h, (omega (arith, mark-at i h), forest-fits edition1 p (omega (arith, slots-small)) _)))
+      (omega (arith, block-at i h), (loss-at i h, (omega (arith, mark-at i h), forest-fits e p slots-fit _)))
 
   pub evidence-fits : Fit (evidenceFields (editionOf bs) (pictureOf bs))
   unfolding evidenceFields
   evidence-fits =
-      fit-append (head-of edition1 p) (nodes-of edition1 p ++ sections-of edition1 p) head-fits
-      (fit-append (nodes-of edition1 p) (sections-of edition1 p) (forest-fits edition1 p (omega (arith, slots-small)) (isHeld p))
-      (fit-flat noCost (sectionFields edition1 p) (weighings p) section-fits))
+      fit-append (head-of e p) (nodes-of e p ++ sections-of e p) head-fits
+      (fit-append (nodes-of e p) (sections-of e p) (forest-fits e p slots-fit (isHeld p))
+      (fit-flat noCost (sectionFields e p) (weighings p) section-fits))
 
 -- ---- how long the evidence is
 
 -- every part takes whole bytes
-pub whole-bytes : (n c : ℕ) → sectionAt edition1 n c ≡ 8 * evidenceBytes edition1 n c
+pub whole-bytes : {e : Edition} → Known e → (n c : ℕ) → sectionAt e n c ≡ 8 * evidenceBytes e n c
 unfolding sectionAt evidenceBytes
-whole-bytes n c = omega (arith, head-whole, forest-whole n, sections-whole n c)
+whole-bytes k n c = omega (arith, head-whole, forest-whole k n, sections-whole k n c)
 
 pub span-bytes : (bs : List ℕ) → span (evidenceFields (editionOf bs) (pictureOf bs)) ≡ 8 * lengthFor bs
 unfolding lengthFor
-span-bytes bs = span-evidence edition1 (pictureOf bs) ∙ whole-bytes (slotCount (pictureOf bs)) (length (candidates (pictureOf bs)))
+span-bytes bs = span-evidence (editionOf bs) (pictureOf bs) ∙ whole-bytes (known-for (editionNumber bs)) (slotCount (pictureOf bs)) (length (candidates (pictureOf bs)))
 
 pub length-evidence : (bs : List ℕ) → length (evidenceOf bs) ≡ evidenceBytes (editionOf bs) (slotCount (pictureOf bs)) (length (candidates (pictureOf bs)))
 unfolding evidenceOf lengthFor
-length-evidence bs = length-packed (evidenceFields edition1 (pictureOf bs)) ∙ omega (arith, span-bytes bs)
+length-evidence bs = length-packed (evidenceFields (editionOf bs) (pictureOf bs)) ∙ omega (arith, span-bytes bs)

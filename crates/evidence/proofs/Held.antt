@@ -13,7 +13,8 @@ use Rattle.packing.specs.Holding.{span, Holds}
 use Rattle.packing.proofs.Fields.{holds-append, holds-flat}
 use Rattle.packing.proofs.Packed.{packed-holds}
 use Rattle.graph.specs.declared.Node.{Node}
-use Rattle.picture.specs.Layout.{Edition, editionOf, fieldIn}
+use Rattle.picture.specs.declared.Edition.{Edition}
+use Rattle.picture.specs.Layout.{editionOf, fieldIn}
 use Rattle.picture.specs.Picture.{Picture, pictureOf, rows}
 use Rattle.picture.specs.Faults.{pictureFault}
 use Rattle.picture.proofs.Starts.{length-rows, row-at}

@@ -14,7 +14,8 @@ use Rattle.lists.proofs.Faults.{judge-none, Numbered}
 use Rattle.lists.proofs.Rules.{right-then, judged-then, each-judged, each-numbered}
 use Rattle.lists.proofs.Ranges.{length-range}
 use Rattle.lists.proofs.Picks.{range-at}
-use Rattle.picture.specs.Layout.{Edition, editionOf}
+use Rattle.picture.specs.declared.Edition.{Edition}
+use Rattle.picture.specs.Layout.{editionOf}
 use Rattle.picture.specs.Picture.{Picture, pictureOf}
 use Rattle.picture.proofs.Accepted.{picture-judged, numbered}
 use Rattle.network.specs.Words.{slotCount, isHeld, Named}

@@ -12,7 +12,8 @@ use lib.ListN.{length, getD}
 use Rattle.lists.specs.Lists.{range, all, any}
 use Rattle.lists.proofs.Tests.{and-T, T-and, eq-T, any-at, at-any}
 use Rattle.lists.proofs.Sums.{total-one}
-use Rattle.picture.specs.Layout.{Edition}
+use Rattle.picture.specs.declared.Edition.{Edition}
+use Rattle.picture.specs.Layout.{}
 use Rattle.picture.specs.Picture.{Picture}
 use Rattle.network.specs.Words.{slotCount, blockCount, isHeld, heldWithout, ServedWeight, Candidate, Named}
 use Rattle.network.specs.declared.Cost.{Cost}

@@ -11,7 +11,8 @@ use Rattle.lists.proofs.Rules.{numbered-both, hold-one, hold-left, hold-right, 
 use Rattle.lists.proofs.Ranges.{length-range}
 use Rattle.lists.proofs.Picks.{range-at}
 use Rattle.graph.specs.Kept.{ForestKept}
-use Rattle.picture.specs.Layout.{Edition, editionOf}
+use Rattle.picture.specs.declared.Edition.{Edition}
+use Rattle.picture.specs.Layout.{editionOf}
 use Rattle.picture.specs.Picture.{Picture, pictureOf}
 use Rattle.picture.specs.Faults.{pictureFault}
 use Rattle.picture.specs.Rules.{rules}

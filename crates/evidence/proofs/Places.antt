@@ -3,73 +3,102 @@ use mathlib.Core.Path.{_≡_, refl, sym, ap, _∙_}
 use mathlib.Core.List.{List}
 use Prim.Native.Nat.{ℕ, zero, suc, _+_, _*_, _^_, _≤_, _<_}
 use native.Mathlib.Omega.{arith}
-use native.Mathlib.Nat.{mul-le-mul-right, suc-mul, mul-assoc}
+use native.Mathlib.Nat.{mul-le-mul, suc-mul, mul-assoc}
 use Rattle.bits.specs.Bits.{fieldAt}
 use Rattle.bits.proofs.Reading.{fieldAt-below}
 use Rattle.lists.specs.Lists.{sum}
-use Rattle.rows.specs.Rows.{slotsMax}
-use Rattle.picture.specs.Layout.{edition1, fieldIn}
-use Rattle.evidence.specs.Layout.{headWidths, nodeWidths, sectionHeadWidths, forestBits, sectionBits, sectionBytes, sectionAt, forestAt}
+use Rattle.picture.specs.declared.Edition.{Edition}
+use Rattle.picture.specs.Layout.{edition2, fieldIn}
+use Rattle.picture.specs.declared.Header.{Header}
+use Rattle.picture.specs.Inner.{Known, Limited}
+use Rattle.picture.proofs.Editions.{widths}
+use Rattle.picture.proofs.Starts.{few}
+use Rattle.evidence.specs.Layout.{headWidths, nodeWidths, nodeBytes, sectionHeadWidths, forestBits, sectionBits, sectionBytes, sectionAt, forestAt}
 use Rattle.evidence.specs.Contents.{headIn, sectionIn}
 
--- the numbers of edition 1, as the code has them
-pub section-bits : (n : ℕ) → sectionBits edition1 n ≡ 40 + n * 16
-unfolding sectionBits sectionHeadWidths forestBits nodeWidths sum
-section-bits n = refl
-
-pub section-bytes : (n : ℕ) → sectionBytes edition1 n ≡ 5 + n * 2
-unfolding sectionBytes
-section-bytes n = omega (arith, section-bits n)
-
--- the head, a forest, a section and so many of them take whole bytes
+-- the head takes whole bytes
 pub head-whole : sum headWidths ≡ 9 * 8
 unfolding headWidths sum
 head-whole = refl
 
-pub forest-whole : (n : ℕ) → forestBits edition1 n ≡ n * 2 * 8
-unfolding forestBits nodeWidths sum
-forest-whole n = omega arith
+-- a node does in either edition
+pub node-whole : {e : Edition} → Known e → sum (nodeWidths e) ≡ nodeBytes e * 8
+unfolding nodeBytes nodeWidths sum
+node-whole Known.first = refl
+node-whole Known.second = refl
 
-pub section-whole : (n : ℕ) → sectionBits edition1 n ≡ sectionBytes edition1 n * 8
-section-whole n = omega (arith, section-bits n, section-bytes n)
+module _ {e : Edition} (known : Known e) where
+  -- so a forest, a section and so many of them do
+  pub forest-whole : (n : ℕ) → forestBits e n ≡ n * nodeBytes e * 8
+  unfolding forestBits
+  forest-whole n = ap (λ (x : ℕ). n * x) (node-whole known) ∙ sym (mul-assoc n (nodeBytes e) 8)
 
-pub sections-whole : (n c : ℕ) → c * sectionBits edition1 n ≡ c * sectionBytes edition1 n * 8
-sections-whole n c = ap (λ (x : ℕ). c * x) (section-whole n) ∙ sym (mul-assoc c (sectionBytes edition1 n) 8)
+  pub section-bytes : (n : ℕ) → sectionBytes e n ≡ 5 + n * nodeBytes e
+  unfolding sectionBytes sectionBits sectionHeadWidths sum
+  section-bytes n = omega (arith, forest-whole n)
 
-pub section-at : (n i : ℕ) → sectionAt edition1 n i ≡ 72 + n * 16 + i * (40 + n * 16)
-unfolding sectionAt headWidths sectionBits sectionHeadWidths forestBits nodeWidths sum
-section-at n i = refl
+  pub section-whole : (n : ℕ) → sectionBits e n ≡ sectionBytes e n * 8
+  unfolding sectionBits sectionHeadWidths sum
+  section-whole n = omega (arith, forest-whole n, section-bytes n)
 
-pub section-small : (n i : ℕ) → n ≤ slotsMax → i ≤ 255 → sectionAt edition1 n i < 2 ^ 20
-section-small n i a b =
-    let m : i * (40 + n * 16) ≤ 255 * (40 + n * 16) = mul-le-mul-right (40 + n * 16) b in
-    omega (arith, section-at n i)
+  pub sections-whole : (n c : ℕ) → c * sectionBits e n ≡ c * sectionBytes e n * 8
+  sections-whole n c = ap (λ (x : ℕ). c * x) (section-whole n) ∙ sym (mul-assoc c (sectionBytes e n) 8)
 
--- a forest starts where the head ends, and so many sections on
-pub forest-at : (n k : ℕ) → forestAt edition1 n k ≡ sum headWidths + k * sectionBits edition1 n
-unfolding forestAt sectionAt sectionBits headWidths sectionHeadWidths forestBits nodeWidths sum
-forest-at n zero = omega arith
-forest-at n (suc i) = omega (arith, suc-mul i (40 + n * 16))
+  -- a forest, and with it a section, takes no more than that of the most slots in the widest edition
+  pub node-most : sum (nodeWidths e) ≤ sum (nodeWidths edition2)
+  unfolding nodeWidths sum
+  node-most = omega (arith, widths known)
 
-pub forest-small : (n k : ℕ) → n ≤ slotsMax → k ≤ 255 → forestAt edition1 n k < 2 ^ 20
-unfolding headWidths sum
-forest-small n k a b =
-    let m : k * (40 + n * 16) ≤ 255 * (40 + n * 16) = mul-le-mul-right (40 + n * 16) b in
-    omega (arith, forest-at n k, ap (λ (x : ℕ). k * x) (section-bits n))
+  pub forest-most : (n : ℕ) → n ≤ edition2 .«slots_max» → forestBits e n ≤ forestBits edition2 (edition2 .«slots_max»)
+  unfolding forestBits
+  forest-most n l = mul-le-mul l node-most
+
+  pub section-most : (n i : ℕ) → n ≤ edition2 .«slots_max» → i ≤ 255 → i * sectionBits e n ≤ 255 * sectionBits edition2 (edition2 .«slots_max»)
+  unfolding sectionBits
+  section-most n i l m = mul-le-mul m (omega (arith, forest-most n l))
+
+  -- so that places are small numbers
+  pub section-small : (n i : ℕ) → n ≤ edition2 .«slots_max» → i ≤ 255 → sectionAt e n i < 2 ^ 21
+  unfolding sectionAt headWidths sectionBits sectionHeadWidths forestBits nodeWidths sum
+  section-small n i l m = omega (arith, forest-most n l, section-most n i l m)
+
+  pub forest-at : (n k : ℕ) → forestAt e n k ≡ sum headWidths + k * sectionBits e n
+  unfolding forestAt sectionAt
+  forest-at n zero = omega arith
+  forest-at n (suc i) = unfold sectionBits in omega (arith, suc-mul i (sectionBits e n))
+
+  pub forest-small : (n k : ℕ) → n ≤ edition2 .«slots_max» → k ≤ 255 → forestAt e n k < 2 ^ 21
+  unfolding headWidths sectionBits sectionHeadWidths forestBits nodeWidths sum
+  forest-small n k l m = omega (arith, forest-at n k, section-most n k l m)
+
+-- the same under a header
+module _ (h : Header) (l : Limited h) where
+  abbrev most : h .slots ≤ edition2 .«slots_max»
+  most = few h l .slots
+
+  pub forest-low : forestBits (h .edition) (h .slots) < 2 ^ 13
+  unfolding forestBits nodeWidths sum
+  forest-low = omega (arith, forest-most (l .known) (h .slots) most)
+
+  pub section-low : (i : ℕ) → i ≤ 255 → sectionAt (h .edition) (h .slots) i < 2 ^ 21
+  section-low i = section-small (l .known) (h .slots) i most
+
+  pub forest-place-low : (k : ℕ) → k ≤ 255 → forestAt (h .edition) (h .slots) k < 2 ^ 21
+  forest-place-low k = forest-small (l .known) (h .slots) k most
 
 -- the fields of section i, from where it starts
-module _ (n : ℕ) (ev : List ℕ) (i : ℕ) {at : ℕ} (e : at ≡ sectionAt edition1 n i) where
-  pub block-at : fieldAt ev at 8 ≡ sectionIn edition1 n ev i .block
+module _ (e : Edition) (n : ℕ) (ev : List ℕ) (i : ℕ) {at : ℕ} (s : at ≡ sectionAt e n i) where
+  pub block-at : fieldAt ev at 8 ≡ sectionIn e n ev i .block
   unfolding sectionIn sectionHeadWidths fieldIn sum
-  block-at = ap (λ (q : ℕ). fieldAt ev q 8) (e ∙ omega arith)
+  block-at = ap (λ (q : ℕ). fieldAt ev q 8) (s ∙ omega arith)
 
-  pub loss-at : fieldAt ev (at + 8) 24 ≡ sectionIn edition1 n ev i .loss
+  pub loss-at : fieldAt ev (at + 8) 24 ≡ sectionIn e n ev i .loss
   unfolding sectionIn sectionHeadWidths fieldIn sum
-  loss-at = ap (λ (q : ℕ). fieldAt ev (q + 8) 24) e
+  loss-at = ap (λ (q : ℕ). fieldAt ev (q + 8) 24) s
 
-  pub mark-at : fieldAt ev (at + 32) 8 ≡ sectionIn edition1 n ev i .mark
+  pub mark-at : fieldAt ev (at + 32) 8 ≡ sectionIn e n ev i .mark
   unfolding sectionIn sectionHeadWidths fieldIn sum
-  mark-at = ap (λ (q : ℕ). fieldAt ev (q + 32) 8) e
+  mark-at = ap (λ (q : ℕ). fieldAt ev (q + 32) 8) s
 
 -- no number that the head or a section states has more than 24 bits
 module _ (ev : List ℕ) where
@@ -77,7 +106,7 @@ module _ (ev : List ℕ) where
   unfolding headIn headWidths fieldIn
   head-below = (fieldAt-below ev _ 8 24 refl (omega arith), fieldAt-below ev _ 24 24 refl (omega arith), fieldAt-below ev _ 24 24 refl (omega arith))
 
-  pub section-below : (n i : ℕ) → let w = sectionIn edition1 n ev i in (w .block < 2 ^ 24) × (w .loss < 2 ^ 24) × (w .mark < 2 ^ 24)
+  pub section-below : (e : Edition) (n i : ℕ) → let w = sectionIn e n ev i in (w .block < 2 ^ 24) × (w .loss < 2 ^ 24) × (w .mark < 2 ^ 24)
   unfolding sectionIn sectionHeadWidths fieldIn
-  section-below n i =
+  section-below e n i =
       (fieldAt-below ev _ 8 24 refl (omega arith), fieldAt-below ev _ 24 24 refl (omega arith), fieldAt-below ev _ 8 24 refl (omega arith))

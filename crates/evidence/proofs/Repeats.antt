@@ -10,7 +10,8 @@ use Rattle.lists.specs.Lists.{range, on, first, all, flat}
 use Rattle.graph.specs.declared.Node.{Node}
 use Rattle.graph.specs.Rounds.{forest}
 use Rattle.packing.specs.Packing.{fieldsOf}
-use Rattle.picture.specs.Layout.{Edition, edition1}
+use Rattle.picture.specs.declared.Edition.{Edition}
+use Rattle.picture.specs.Layout.{editionOf}
 use Rattle.picture.specs.Picture.{Picture, pictureOf}
 use Rattle.picture.specs.Faults.{pictureFault}
 use Rattle.network.specs.declared.Cost.{Cost}
@@ -67,17 +68,17 @@ module _ {p q : Picture} (r : Repeated p q) where
         ∷ on (not (eqb (sectionIn e n ev k .loss) (w .loss) && eqb (sectionIn e n ev k .mark) (w .mark))) 15
         ∷ [])
 
--- two pictures as bytes, with the same first fault or none
-pub repeated-check : (bs bs′ : List ℕ) → pictureFault bs ≡ pictureFault bs′ → Repeated (pictureOf bs) (pictureOf bs′) → (ev : List ℕ) → checkFault bs ev ≡ checkFault bs′ ev
+-- two pictures as bytes, of one edition, with the same first fault or none
+pub repeated-check : (bs bs′ : List ℕ) → editionOf bs ≡ editionOf bs′ → pictureFault bs ≡ pictureFault bs′ → Repeated (pictureOf bs) (pictureOf bs′) → (ev : List ℕ) → checkFault bs ev ≡ checkFault bs′ ev
 unfolding checkFault
-repeated-check bs bs′ z r ev =
+repeated-check bs bs′ d z r ev =
     λ i.
     let ws : List Cost = repeated-weighings r i in
     first
     (z i
-    ∷ on (not (form-same r edition1 ev i)) 13
-    ∷ on (not (forest-same r (same-held r) (λ j. firstForest edition1 (same-slots r j) ev) i)) 14
+    ∷ on (not (form-same r (d i) ev i)) 13
+    ∷ on (not (forest-same r (same-held r) (λ j. firstForest (d i) (same-slots r j) ev) i)) 14
     ∷ on (not (eqb (headIn ev .served) (repeated-served-weight r i))) 15
-    ∷ first (map (λ k. section-same r edition1 ev k i) (range 0 (length ws)))
+    ∷ first (map (λ k. section-same r (d i) ev k i) (range 0 (length ws)))
     ∷ on (not (verdictRight ev ws)) 16
     ∷ [])

@@ -15,17 +15,19 @@ use Rattle.bits.proofs.Reading.{fieldAt-part}
 use Rattle.lists.specs.Lists.{place, sum, Placed}
 use Rattle.lists.proofs.Tests.{eq-T}
 use Rattle.lists.proofs.Searches.{place-holds, place-first}
-use Rattle.picture.specs.Layout.{edition1, fieldIn}
+use Rattle.picture.specs.Inner.{Known}
+use Rattle.picture.proofs.Editions.{known-for}
+use Rattle.picture.specs.Layout.{editionOf, editionNumber, fieldIn}
 use Rattle.picture.specs.Picture.{pictureOf}
 use Rattle.network.specs.Words.{slotCount}
 use Rattle.network.specs.Tests.{candidates}
 use Rattle.network.proofs.Candidates.{candidate-below, candidates-all}
 use Rattle.evidence.specs.declared.Part.{Part}
-use Rattle.evidence.specs.Layout.{sectionHeadWidths, sectionBytes, sectionAt, evidenceBytes}
+use Rattle.evidence.specs.Layout.{nodeBytes, sectionHeadWidths, sectionBytes, sectionAt, evidenceBytes}
 use Rattle.evidence.specs.Contents.{headIn, sectionIn}
 use Rattle.evidence.specs.Checks.{checkFault}
 use Rattle.evidence.specs.Calls.{shownPart, shown, SectionOf}
-use Rattle.evidence.proofs.Places.{section-bytes, section-at}
+use Rattle.evidence.proofs.Places.{section-bytes}
 use Rattle.evidence.proofs.Lengths.{sections-end}
 use Rattle.evidence.proofs.Passing.{Passes, check-passes}
 use Rattle.evidence.proofs.Unique.{verdict-named}
@@ -45,9 +47,12 @@ module _ (bs ev : List ℕ) where
   shown-none n = rw (ne-eqb (headIn ev .verdict) 1 n, and-false (eqb (checkFault bs ev) 0))
 
   module _ (passed : checkFault bs ev ≡ 0) (one : headIn ev .verdict ≡ 1) where
-    pub shown-part : shownPart bs ev ≡ record { start = sectionAt edition1 (slotCount (pictureOf bs)) namedAt / 8; size = sectionBytes edition1 (slotCount (pictureOf bs)) }
+    pub shown-part : shownPart bs ev ≡ record { start = sectionAt (editionOf bs) (slotCount (pictureOf bs)) namedAt / 8; size = sectionBytes (editionOf bs) (slotCount (pictureOf bs)) }
     unfolding shownPart
     shown-part = rw (eq-eqb (checkFault bs ev) 0 passed, eq-eqb (headIn ev .verdict) 1 one)
+
+    known : Known (editionOf bs)
+    known = known-for (editionNumber bs)
 
     passes : Passes bs ev
     passes = check-passes bs ev passed
@@ -71,28 +76,27 @@ module _ (bs ev : List ℕ) where
     unfolding evidenceBytes
     section-room =
         let n = slotCount (pictureOf bs) in
-        let m = mul-le-mul-right (40 + n * 16) named-within in
+        let size = sectionBytes (editionOf bs) n in
         rw shown-part
         (omega (
           arith,
-          m,
-          section-bytes n,
+          mul-le-mul-right size named-within,
           passes .form .size,
-          section-at n namedAt,
-          section-at n (length (candidates (pictureOf bs))),
-          suc-mul namedAt (40 + n * 16),
+          sections-end known n namedAt,
+          sections-end known n (length (candidates (pictureOf bs))),
+          suc-mul namedAt size,
         ))
 
     -- a section starts at a whole byte
-    whole-start : shownPart bs ev .start * 8 ≡ sectionAt edition1 (slotCount (pictureOf bs)) namedAt
-    whole-start = rw shown-part (let e = sections-end (slotCount (pictureOf bs)) namedAt in omega arith)
+    whole-start : shownPart bs ev .start * 8 ≡ sectionAt (editionOf bs) (slotCount (pictureOf bs)) namedAt
+    whole-start = rw shown-part (let e = sections-end known (slotCount (pictureOf bs)) namedAt in omega arith)
 
     -- "hands back the chosen candidate's section of the evidence itself"
-    pub shown-section : SectionOf (slotCount (pictureOf bs)) (headIn ev .block) (shown bs ev)
+    pub shown-section : SectionOf (editionOf bs) (slotCount (pictureOf bs)) (headIn ev .block) (shown bs ev)
     unfolding shown sectionIn sectionHeadWidths fieldIn sum
     shown-section =
         let n = slotCount (pictureOf bs) in
-        let size : shownPart bs ev .size ≡ 5 + 2 * n = ap (λ (p : Part). p .size) shown-part ∙ omega (arith, section-bytes n) in
+        let size : shownPart bs ev .size ≡ 5 + n * nodeBytes (editionOf bs) = ap (λ (p : Part). p .size) shown-part ∙ section-bytes known n in
         record {
           size = simp (length-take, length-drop) (omega (arith, section-room, size));
           begins =

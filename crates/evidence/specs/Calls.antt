@@ -7,13 +7,14 @@ use lib.Dec.{eqb, ltb}
 use lib.ListN.{length, take, drop}
 use Rattle.bits.specs.Bits.{fieldAt}
 use Rattle.lists.specs.Lists.{on, first, place}
-use Rattle.picture.specs.Layout.{Edition, editionOf}
+use Rattle.picture.specs.declared.Edition.{Edition}
+use Rattle.picture.specs.Layout.{editionOf}
 use Rattle.picture.specs.Picture.{Picture, pictureOf}
 use Rattle.picture.specs.Faults.{pictureFault}
 use Rattle.network.specs.Words.{slotCount}
 use Rattle.network.specs.Tests.{candidates}
 use Rattle.evidence.specs.declared.Part.{Part}
-use Rattle.evidence.specs.Layout.{sectionAt, sectionBytes, evidenceBytes}
+use Rattle.evidence.specs.Layout.{nodeBytes, sectionAt, sectionBytes, evidenceBytes}
 use Rattle.evidence.specs.Canonical.{evidenceOf}
 use Rattle.evidence.specs.Contents.{headIn}
 use Rattle.evidence.specs.Checks.{checkFault}
@@ -47,6 +48,6 @@ unfoldable pub shown : List ℕ → List ℕ → List ℕ
 shown bs ev = take (shownPart bs ev .size) (drop (shownPart bs ev .start) ev)
 
 -- a section: as many bytes as one has for n slots, the first of which is the block's
-pub record SectionOf (n block : ℕ) (part : List ℕ) : Type 0 where
-  pub size : length part ≡ 5 + 2 * n
+pub record SectionOf (e : Edition) (n block : ℕ) (part : List ℕ) : Type 0 where
+  pub size : length part ≡ 5 + n * nodeBytes e
   pub begins : fieldAt part 0 8 ≡ block

@@ -8,7 +8,8 @@ use Rattle.lists.specs.Lists.{flat}
 use Rattle.packing.specs.Packing.{Field, fieldsOf, packed}
 use Rattle.graph.specs.declared.Node.{Node}
 use Rattle.graph.specs.Rounds.{forest}
-use Rattle.picture.specs.Layout.{Edition, editionOf}
+use Rattle.picture.specs.declared.Edition.{Edition}
+use Rattle.picture.specs.Layout.{editionOf}
 use Rattle.picture.specs.Picture.{Picture, pictureOf}
 use Rattle.network.specs.Words.{slotCount, isHeld, heldWithout, joins}
 use Rattle.network.specs.declared.Cost.{Cost}

@@ -3,7 +3,8 @@ use mathlib.Core.List.{List}
 use Prim.Native.Nat.{ℕ, suc}
 use Rattle.lists.specs.Lists.{sum}
 use Rattle.graph.specs.declared.Node.{Node}
-use Rattle.picture.specs.Layout.{Edition, fieldIn}
+use Rattle.picture.specs.declared.Edition.{Edition}
+use Rattle.picture.specs.Layout.{fieldIn}
 use Rattle.picture.specs.Picture.{rows}
 use Rattle.evidence.specs.declared.Head.{Head}
 use Rattle.evidence.specs.declared.Stated.{Stated}

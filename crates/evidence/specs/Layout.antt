@@ -2,7 +2,8 @@
 use mathlib.Core.List.{List, [], _∷_}
 use Prim.Native.Nat.{ℕ, zero, suc, _+_, _*_, _/_}
 use Rattle.lists.specs.Lists.{sum}
-use Rattle.picture.specs.Layout.{Edition}
+use Rattle.picture.specs.declared.Edition.{Edition}
+use Rattle.picture.specs.Layout.{}
 
 -- head: edition, verdict, block, candidate count C, served weight, loss
 unfoldable pub headWidths : List ℕ
@@ -10,7 +11,11 @@ headWidths = 4 ∷ 4 ∷ 8 ∷ 8 ∷ 24 ∷ 24 ∷ []
 
 -- a node of a forest: parent, depth
 unfoldable pub nodeWidths : Edition → List ℕ
-nodeWidths e = e .locationBits ∷ e .locationBits ∷ []
+nodeWidths e = e .«location_bits» ∷ e .«location_bits» ∷ []
+
+-- the same in bytes: whole ones, two in edition 1 and three in edition 2
+unfoldable pub nodeBytes : Edition → ℕ
+nodeBytes e = sum (nodeWidths e) / 8
 
 -- what a candidate's section has before its forest: block, loss, mark
 unfoldable pub sectionHeadWidths : List ℕ
@@ -37,10 +42,10 @@ unfoldable pub forestAt : Edition → ℕ → ℕ → ℕ
 forestAt e n zero = sum headWidths
 forestAt e n (suc i) = sectionAt e n i + sum sectionHeadWidths
 
--- the length in bytes for c candidates: 9 + 2n + C(5 + 2n) in edition 1
+-- the length in bytes for c candidates: 9 + 2n + C(5 + 2n) in edition 1, and 9 + 3n + C(5 + 3n) in edition 2
 unfoldable pub evidenceBytes : Edition → ℕ → ℕ → ℕ
 evidenceBytes e n c = sectionAt e n c / 8
 
--- the longest evidence, in bytes
+-- the longest evidence, in bytes: in edition 2, for sixty blocks of five slots
 abbrev pub evidenceMax : ℕ
-evidenceMax = 29589
+evidenceMax = 55209

@@ -6,7 +6,8 @@ use lib.ListN.{length, getD}
 use Rattle.lists.specs.Lists.{range}
 use Rattle.lists.specs.Rules.{Rule, eachRules}
 use Rattle.graph.specs.Kept.{ForestKept}
-use Rattle.picture.specs.Layout.{Edition, editionOf}
+use Rattle.picture.specs.declared.Edition.{Edition}
+use Rattle.picture.specs.Layout.{editionOf}
 use Rattle.picture.specs.Picture.{Picture, pictureOf}
 use Rattle.picture.specs.Rules.{rules}
 use Rattle.network.specs.Words.{slotCount, isHeld, heldWithout, joins, ServedWeight, Loss, CutCount, CutsProtected, Candidate, Admissible}

@@ -2,15 +2,16 @@
 // `specs/Layout.antt` has the widths that the contracts cite.
 ghost use mathlib.Core.Path.{_≡_};
 ghost use Prim.Native.Nat.{_≤_};
-ghost use Rattle.rows.specs.Rows.{slotsMax};
-ghost use Rattle.picture.specs.Layout.{edition1};
-ghost use Rattle.evidence.specs.Layout.{sectionBits, sectionBytes, sectionAt, forestAt, evidenceBytes};
+ghost use Rattle.lists.specs.Lists.{sum};
+ghost use Rattle.picture.specs.Inner.{Known, Limited};
+ghost use Rattle.evidence.specs.Layout.{nodeWidths, forestBits, sectionBits, sectionBytes, sectionAt, forestAt, evidenceBytes};
 ghost use Rattle.evidence.specs.Canonical.{isLess, bettered};
 ghost use Rattle.evidence.specs.Contents.{headIn, sectionIn};
 use network::Cost;
 use picture::BLOCKS_MAX;
-use picture::LOCATION_BITS;
-use picture::SLOTS_MAX;
+use picture::Edition;
+use picture::Header;
+use picture::WIDE_LOCATION_BITS;
 
 // Widths in bits, in the order of the fields.
 pub const EDITION_BITS: usize = 4;
@@ -46,9 +47,6 @@ pub const SECTION_MARK_AT: usize = SECTION_LOSS_AT + SUM_BITS;
 
 pub const SECTION_HEAD_BITS: usize = SECTION_MARK_AT + MARK_BITS;
 
-// A node of a forest.
-pub const NODE_BITS: usize = LOCATION_BITS + LOCATION_BITS;
-
 // The same in bytes.
 pub const BYTE_BITS: usize = 8;
 
@@ -56,12 +54,11 @@ pub const HEAD_BYTES: usize = HEAD_BITS / BYTE_BITS;
 
 pub const SECTION_HEAD_BYTES: usize = SECTION_HEAD_BITS / BYTE_BITS;
 
-pub const NODE_BYTES: usize = NODE_BITS / BYTE_BITS;
+// The longest evidence, in bytes: 55,209. In edition 2 it has sixty blocks of five slots, and with more slots there are fewer blocks.
+const LONGEST_FOREST: usize = BLOCKS_MAX * 5 * (2 * WIDE_LOCATION_BITS) / BYTE_BITS;
 
-// The longest evidence, in bytes: 29,589.
-pub const EVIDENCE_MAX: usize = HEAD_BYTES
-    + SLOTS_MAX * NODE_BYTES
-    + BLOCKS_MAX * (SECTION_HEAD_BYTES + SLOTS_MAX * NODE_BYTES);
+pub const EVIDENCE_MAX: usize =
+    HEAD_BYTES + LONGEST_FOREST + BLOCKS_MAX * (SECTION_HEAD_BYTES + LONGEST_FOREST);
 
 // What the head says.
 pub struct Head {
@@ -94,44 +91,60 @@ pub struct Part {
     pub size: usize,
 }
 
-// The bits of a section for n slots.
-pub fn section_bits(n: usize) -> usize
-    requires { ⌜ n ≤ slotsMax ⌝ }
-    ensures { λ r. ⌜ r ≡ sectionBits edition1 n ⌝ }
+// The bits of a node of a forest.
+pub fn node_bits(e: Edition) -> usize
+    requires { ⌜ Known e ⌝ }
+    ensures { λ r. ⌜ r ≡ sum (nodeWidths e) ⌝ }
 {
-    SECTION_HEAD_BITS + n * NODE_BITS
+    e.location_bits + e.location_bits
+}
+
+// The bits of a forest.
+pub fn forest_bits(h: Header) -> usize
+    requires { ⌜ Limited h ⌝ }
+    ensures { λ r. ⌜ r ≡ forestBits (h .edition) (h .slots) ⌝ }
+{
+    h.slots * node_bits(h.edition)
+}
+
+// The bits of a section.
+pub fn section_bits(h: Header) -> usize
+    requires { ⌜ Limited h ⌝ }
+    ensures { λ r. ⌜ r ≡ sectionBits (h .edition) (h .slots) ⌝ }
+{
+    SECTION_HEAD_BITS + forest_bits(h)
 }
 
 // The same in bytes: a section has whole ones.
-pub fn section_bytes(n: usize) -> usize
-    requires { ⌜ n ≤ slotsMax ⌝ }
-    ensures { λ r. ⌜ r ≡ sectionBytes edition1 n ⌝ }
+pub fn section_bytes(h: Header) -> usize
+    requires { ⌜ Limited h ⌝ }
+    ensures { λ r. ⌜ r ≡ sectionBytes (h .edition) (h .slots) ⌝ }
 {
-    section_bits(n) / BYTE_BITS
+    section_bits(h) / BYTE_BITS
 }
 
 // Where section i starts, in bits.
-pub fn section_at(n: usize, i: usize) -> usize
-    requires { ⌜ (n ≤ slotsMax) × (i ≤ 255) ⌝ }
-    ensures { λ r. ⌜ r ≡ sectionAt edition1 n i ⌝ }
+pub fn section_at(h: Header, i: usize) -> usize
+    requires { ⌜ Limited h × (i ≤ 255) ⌝ }
+    ensures { λ r. ⌜ r ≡ sectionAt (h .edition) (h .slots) i ⌝ }
 {
-    HEAD_BITS + n * NODE_BITS + i * section_bits(n)
+    HEAD_BITS + forest_bits(h) + i * section_bits(h)
 }
 
 // Where forest k starts, in bits: forest 0 is the first one, and forest i + 1 that of section i.
-pub fn forest_at(n: usize, k: usize) -> usize
-    requires { ⌜ (n ≤ slotsMax) × (k ≤ 255) ⌝ }
-    ensures { λ r. ⌜ r ≡ forestAt edition1 n k ⌝ }
+pub fn forest_at(h: Header, k: usize) -> usize
+    requires { ⌜ Limited h × (k ≤ 255) ⌝ }
+    ensures { λ r. ⌜ r ≡ forestAt (h .edition) (h .slots) k ⌝ }
 {
-    HEAD_BITS + k * section_bits(n)
+    HEAD_BITS + k * section_bits(h)
 }
 
 // The length of evidence in bytes, for so many candidates.
-pub fn evidence_bytes(n: usize, count: usize) -> usize
-    requires { ⌜ (n ≤ slotsMax) × (count ≤ 255) ⌝ }
-    ensures { λ r. ⌜ r ≡ evidenceBytes edition1 n count ⌝ }
+pub fn evidence_bytes(h: Header, count: usize) -> usize
+    requires { ⌜ Limited h × (count ≤ 255) ⌝ }
+    ensures { λ r. ⌜ r ≡ evidenceBytes (h .edition) (h .slots) count ⌝ }
 {
-    section_at(n, count) / BYTE_BITS
+    section_at(h, count) / BYTE_BITS
 }
 
 // The head of evidence.
@@ -148,12 +161,12 @@ pub fn head_of(ev: &[u8]) -> Head
     }
 }
 
-// What section i of evidence for n slots states.
-pub fn section_of(ev: &[u8], n: usize, i: usize) -> Stated
-    requires { ⌜ (n ≤ slotsMax) × (i ≤ 255) ⌝ }
-    ensures { λ r. ⌜ r ≡ sectionIn edition1 n (now (ev .entry)) i ⌝ }
+// What section i of evidence under a header states.
+pub fn section_of(ev: &[u8], h: Header, i: usize) -> Stated
+    requires { ⌜ Limited h × (i ≤ 255) ⌝ }
+    ensures { λ r. ⌜ r ≡ sectionIn (h .edition) (h .slots) (now (ev .entry)) i ⌝ }
 {
-    let at = section_at(n, i);
+    let at = section_at(h, i);
     Stated {
         block: bits::field(ev, at, BLOCK_BITS),
         loss: bits::field(ev, at + SECTION_LOSS_AT, SUM_BITS),

@@ -8,7 +8,7 @@ use Rattle.rows.specs.Rows.{slotsMax}
 use Rattle.picture.specs.declared.Header.{Header}
 use Rattle.picture.specs.Picture.{Picture, pictureOf, pictureWith}
 use Rattle.picture.specs.Inner.{Read}
-use Rattle.picture.proofs.Facts.{read-picture, read-sizes, read-slots-length, read-endpoints-length}
+use Rattle.picture.proofs.Facts.{read-picture, read-sizes, read-slots-most, read-slots-length, read-endpoints-length}
 use Rattle.network.specs.Words.{slotCount, endpointCount, blockCount}
 
 -- a block below the last ends where the last does or before
@@ -37,8 +37,8 @@ module _ (bs : List ℕ) (h : Header) (r : Read bs h) where
   unfolding blockCount
   read-blocks = sym (ap₂ (λ (x y : ℕ). x / y) read-slots read-block-size)
 
-  -- a block's slots are among the first 240 locations
+  -- a block's slots are among the locations of the rows
   pub read-block : (b : ℕ) → b < blockCount (pictureOf bs) → b * h .«block_size» + h .«block_size» ≤ slotsMax
   read-block b l =
       let f : b * h .«block_size» + h .«block_size» ≤ h .slots = block-fits (h .slots) (h .«block_size») b (rw read-blocks l) in
-      omega (arith, read-sizes bs h r .slots-most)
+      omega (arith, read-slots-most bs h r)

@@ -45,11 +45,11 @@ module _ (bs : List ℕ) where
   -- the counts are the header's
   pub slots-counted : slotCount (pictureOf bs) ≡ headerOf bs .slots
   unfolding slotCount pictureOf
-  slots-counted = slots-length (editionOf bs) (headerOf bs) bs
+  slots-counted = slots-length (headerOf bs) bs
 
   pub endpoints-counted : endpointCount (pictureOf bs) ≡ headerOf bs .endpoints
   unfolding endpointCount pictureOf
-  endpoints-counted = endpoints-length (editionOf bs) (headerOf bs) bs
+  endpoints-counted = endpoints-length (headerOf bs) bs
 
   pub accepted-named : pictureFault bs ≡ 0 → Named (pictureOf bs)
   accepted-named z =

@@ -49,7 +49,7 @@ pub slots-looked : (p : Picture) (holding nearby : List ℕ) (v : ℕ) → lengt
 unfolding heldIn isHeld isNearHeld slotCount
 slots-looked p holding nearby v l m s r =
     record {
-      slots = record { above = λ u t. leb→le 1 u (seen u t .0); within = λ u t. omega (arith, ltb→lt u v (seen u t .1 .0)) };
+      slots = record { most = omega arith; above = λ u t. leb→le 1 u (seen u t .0); within = λ u t. held-within p u (leb→le 1 u (seen u t .0)) (seen u t .1 .1) };
       held = held;
       near = scanned-all (isNearHeld p) nearby v r near-there;
     }

@@ -97,7 +97,7 @@ module _ (bs : List ℕ) where
   weight-small c = ⊎-elim inside (λ e. subst (λ (x : Endpoint). x .weight ≤ weightMax) (sym e) zero-le) (item-inside (pictureOf bs .endpoints) c _)
     where
       inside : (1 ≤ c) × (c ≤ endpointCount (pictureOf bs)) → endpointOf (pictureOf bs) c .weight ≤ weightMax
-      inside h = rw (endpoint-row (editionOf bs) (headerOf bs) bs c (h .0) (omega (arith, endpoints-counted bs))) (weight-field _)
+      inside h = rw (endpoint-row (headerOf bs) bs c (h .0) (omega (arith, endpoints-counted bs))) (weight-field _)
 
   -- at most 200 endpoints: 200 * 65535 < 2 ^ 24
   pub weights-small : pictureFault bs ≡ 0 → (f : ℕ → Bool) → sumWhere (pictureOf bs) (weightOf (pictureOf bs)) f < 2 ^ 24

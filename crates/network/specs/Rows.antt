@@ -11,7 +11,7 @@ use Rattle.graph.specs.Held.{heldIn, SlotsOnly}
 use Rattle.picture.specs.declared.Header.{Header}
 use Rattle.picture.specs.Picture.{Picture, endpointOf}
 use Rattle.picture.specs.Layout.{endpointsMax}
-use Rattle.network.specs.Words.{isHeld, joins, weightOf}
+use Rattle.network.specs.Words.{slotCount, isHeld, joins, weightOf}
 use Rattle.network.specs.Tests.{isNearHeld}
 
 -- k rows that mark nothing
@@ -41,7 +41,7 @@ tableOf true p = λ c a. joins (p .serviceLinks) a c
 
 -- the rows of the held slots and of the held near slots
 pub record SlotRowsOf (p : Picture) (holding nearby : List ℕ) : Type 0 where
-  pub slots : SlotsOnly holding
+  pub slots : SlotsOnly (slotCount p) holding
   pub held : (v : ℕ) → heldIn holding v ≡ isHeld p v
   pub near : (v : ℕ) → marked nearby v ≡ isNearHeld p v
 

@@ -1,14 +1,15 @@
 -- What is known of an accepted picture and its header. Assumes nothing.
 use mathlib.Core.Path.{_≡_, sym, ap, _∙_, subst}
 use mathlib.Core.List.{List}
-use Prim.Native.Nat.{ℕ}
+use Prim.Native.Nat.{ℕ, _≤_}
 use lib.ListN.{length}
 use Rattle.picture.specs.declared.Header.{Header}
+use Rattle.picture.specs.Layout.{edition2}
 use Rattle.picture.specs.Picture.{Picture, headerIn, headerOf, pictureOf, pictureWith}
 use Rattle.picture.specs.Rules.{Sizes, Counts, Links}
 use Rattle.picture.specs.Inner.{Read, Known, Limited}
 use Rattle.picture.proofs.Editions.{known-for}
-use Rattle.picture.proofs.Starts.{slots-length, endpoints-length, links-length, services-length}
+use Rattle.picture.proofs.Starts.{few, slots-length, endpoints-length, links-length, services-length}
 use Rattle.picture.proofs.Kept.{ServiceLinks}
 use Rattle.picture.proofs.Accepted.{accepted-kept}
 
@@ -29,6 +30,9 @@ module _ (bs : List ℕ) (h : Header) (r : Read bs h) where
 
   pub read-limited : Limited h
   read-limited = record { known = read-known; slots = read-sizes .slots-most; counts = subst Counts (sym (r .header)) (accepted-kept bs (r .accepted) .counts) }
+
+  pub read-slots-most : h .slots ≤ edition2 .«slots_max»
+  read-slots-most = few h read-limited .slots
 
   -- and its links name what is there
   pub read-links : Links (h .slots) (pictureOf bs)

@@ -66,7 +66,7 @@ const LOCATION_BITS: usize = 8;
 
 const SLOTS_MAX: usize = 240;
 
-const WIDE_LOCATION_BITS: usize = 12;
+pub const WIDE_LOCATION_BITS: usize = 12;
 
 const WIDE_SLOTS_MAX: usize = 320;
 

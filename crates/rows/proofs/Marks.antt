@@ -2,7 +2,7 @@
 use mathlib.Core.Bool.{Bool, true, false, not, xor, _&&_, _||_, or-false}
 use mathlib.Core.List.{List, []}
 use mathlib.Core.Logic.{inl, inr, by-cases}
-use mathlib.Core.Path.{_≡_, refl, sym, ap, ap₂, _∙_}
+use mathlib.Core.Path.{_≡_, refl, sym, ap, ap₂, _∙_, subst}
 use Prim.Native.Nat.{ℕ, _+_, _-_, _*_, _/_, _%_, _^_, _≤_, _<_}
 use native.Mathlib.Omega.{arith}
 use native.Mathlib.Decide.{decLt, ℕ-discrete}
@@ -213,6 +213,14 @@ module _ {words : ℕ} {one other row : List ℕ} {i : ℕ} where
 -- a row of zeros marks nothing
 pub clear : (n v : ℕ) → ¬ T (marked (replicate n 0) v)
 clear n v = word-none (replicate n 0) v (zeros-at n (v / 64))
+
+-- a row that marks less than a narrow one is as narrow, and so is one that marks nothing
+pub less-narrow : {words : ℕ} {row less left : List ℕ} → Narrow words row → Minus row less left → Narrow words left
+less-narrow {row = row} {less = less} n m =
+    record { most = n .most; within = λ v t. n .within v (and-T (marked row v) (not (marked less v)) (subst T (m .marks v) t) .0) }
+
+pub clear-narrow : {words : ℕ} (n : ℕ) → words ≤ rowWords → Narrow words (replicate n 0)
+clear-narrow n h = record { most = h; within = λ v t. absurd (clear n v t) }
 
 pub clear-row : (n v : ℕ) → marked (replicate n 0) v ≡ false
 clear-row n v = is-false (marked (replicate n 0) v) (clear n v)

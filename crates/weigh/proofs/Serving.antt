@@ -7,18 +7,21 @@ use Prim.Native.Nat.{ℕ, suc, _≤_}
 use lib.Dec.{T, T-not}
 use lib.ListN.{length, getD}
 use Rattle.lists.specs.Lists.{range, on, sum, any}
-use Rattle.rows.specs.Rows.{marked, linkedIn, Meet, locationsMax}
+use Rattle.rows.specs.declared.Range.{Range}
+use Rattle.rows.specs.Rows.{marked, linkedIn, wordsFor, Narrow, Meet, locationsMax}
+use Rattle.rows.proofs.Marks.{narrow-for}
 use Rattle.rows.specs.Ranges.{noRange, inRange, without}
 use Rattle.rows.proofs.Ranges.{none-without}
 use Rattle.graph.specs.Held.{heldIn}
 use Rattle.graph.specs.Chains.{Reached}
 use Rattle.graph.specs.Steps.{Walked}
+use Rattle.graph.proofs.Walks.{walked-within}
 use Rattle.picture.specs.Layout.{endpointsMax}
 use Rattle.picture.specs.declared.Header.{Header}
 use Rattle.picture.specs.Picture.{Picture, pictureOf, endpointOf}
 use Rattle.picture.specs.Inner.{Read}
 use Rattle.picture.proofs.Facts.{read-limited}
-use Rattle.network.specs.Words.{endpointCount, inBlock, isHeld, heldWithout, joins, weightOf, Named}
+use Rattle.network.specs.Words.{slotCount, endpointCount, inBlock, isHeld, heldWithout, joins, weightOf, Named}
 use Rattle.network.specs.Tests.{marks, served, cut, sumWhere, servedWeight, weighed}
 use Rattle.network.specs.Rows.{RowsOf, SlotRowsOf, EndpointsOf, blockRange}
 use Rattle.network.proofs.Service.{marked-served, served-marked}
@@ -52,6 +55,11 @@ module _ {p : Picture} {holding nearby : List ℕ} (s : SlotRowsOf p holding nea
         → Walked (joins (p .links)) (heldWithout p b) reaches parent depth
     left-walked b e w = walked-over t (left-held b) (rw (← e) at w)
 
+  -- a walk marks slots of the picture alone, whose words are all that need be looked at
+  pub walk-narrow : {linked : ℕ → ℕ → Bool} {row parent depth : List ℕ} (r : Range) → Walked linked (without r (heldIn holding)) (marked row) parent depth
+      → Narrow (wordsFor (slotCount p)) row
+  walk-narrow r w = narrow-for _ _ (s .slots .most) (walked-within r (s .slots) w)
+
 -- ---- service
 
 -- an endpoint is served exactly where its row has a mark in common with the row of what is reached
@@ -81,9 +89,10 @@ none-served table row n = record { meet = λ c. record { common = λ t. absurd t
 
 -- the rows of an accepted picture are as the sums need them
 pub sums-ready : (bs : List ℕ) (h : Header) → Read bs h → {serves : ℕ → ℕ → Bool} {table : List (List ℕ)} {weights guarded : List ℕ}
-    → RowsOf (suc endpointsMax) serves table
-    → EndpointsOf (pictureOf bs) weights guarded → Small weights × (length table ≡ suc endpointsMax) × (h .endpoints ≤ endpointsMax)
-sums-ready bs h r t e = (record { many = e .many; weight = λ c. rw (e .weight c) (weight-small bs c) }, t .many, read-limited bs h r .counts .endpoints-most)
+    → {words : ℕ} {before after : List ℕ} → RowsOf (suc endpointsMax) serves table → EndpointsOf (pictureOf bs) weights guarded → Narrow words before → Narrow words after
+    → Small weights × (length table ≡ suc endpointsMax) × (h .endpoints ≤ endpointsMax) × Narrow words before × Narrow words after
+sums-ready bs h r t e b a =
+    (record { many = e .many; weight = λ c. rw (e .weight c) (weight-small bs c) }, t .many, read-limited bs h r .counts .endpoints-most, b, a)
 
 module _ (p : Picture) (weights guarded : List ℕ) (e : EndpointsOf p weights guarded) (d : ℕ) (many : d ≡ endpointCount p) (f g : ℕ → Bool) where
   pub between-sum : {w w′ : ℕ → ℕ} → ((c : ℕ) → w c ≡ w′ c) → sumBetween w d f g ≡ sumWhere p w′ (λ c. f c && not (g c))

@@ -5,7 +5,7 @@ ghost use mathlib.Core.List.{List};
 ghost use Prim.Native.Nat.{ℕ, suc, _≤_, _<_};
 ghost use lib.ListN.{length};
 ghost use Rattle.lists.specs.Lists.{outcome};
-ghost use Rattle.rows.specs.Rows.{marked, Minus, marksMax};
+ghost use Rattle.rows.specs.Rows.{marked, Narrow, Minus, marksMax};
 ghost use Rattle.picture.specs.Picture.{pictureOf};
 ghost use Rattle.picture.specs.Inner.{Read};
 ghost use Rattle.picture.specs.Layout.{endpointsMax};
@@ -44,11 +44,12 @@ const SUM_UNIT: u32 = 256;
 
 // Whether an endpoint is lost, which the locations of the row serve: one that is gone served it, and none that is left (`after`) does. Most
 // endpoints are served by nothing that is gone, so the first look is the only one.
-fn is_lost(row: [u64; WORDS], gone: [u64; WORDS], after: [u64; WORDS]) -> bool
+fn is_lost(row: [u64; WORDS], gone: [u64; WORDS], after: [u64; WORDS], words: usize) -> bool
+    requires { ⌜ Narrow words gone × Narrow words after ⌝ }
     ensures { λ r. ⌜ ((before : List ℕ) → Minus before after gone → LostRow row before after r) ⌝ }
 {
-    if rows::meet(row, gone) {
-        return !rows::meet(row, after);
+    if rows::meet(row, gone, words) {
+        return !rows::meet(row, after, words);
     }
     false
 }
@@ -72,18 +73,19 @@ pub fn lost_between(
     d: usize,
     before: [u64; WORDS],
     after: [u64; WORDS],
+    words: usize,
 ) -> Lost
-    requires { ⌜ Small (now weights) × (length (now services) ≡ suc endpointsMax) × (d ≤ endpointsMax) ⌝ }
+    requires { ⌜ Small (now weights) × (length (now services) ≡ suc endpointsMax) × (d ≤ endpointsMax) × Narrow words before × Narrow words after ⌝ }
     ensures { λ r. ⌜ LostBetween (now (services .entry)) (now (weights .entry)) protected d before after r ⌝ }
 {
-    let gone = rows::minus(before, after);
+    let gone = rows::minus(before, after, words);
     let mut sum: u32 = 0;
     let mut mark: u8 = 0;
     // Down to the first: so the loop has one count to keep.
     let mut c = d;
     while 0 < c {
         let row = services[c];
-        let lost = is_lost(row, gone, after);
+        let lost = is_lost(row, gone, after, words);
         if lost {
             sum += weights[c] * SUM_UNIT + 1;
         }
@@ -104,8 +106,10 @@ pub fn weigh_block(s: &[u8], h: Header, b: usize) -> Weights
     requires { ⌜ Read (now s) h × (b < blockCount (pictureOf (now s))) ⌝ }
     ensures { λ r. ⌜ r ≡ weightsOf (pictureOf (now (s .entry))) b ⌝ }
 {
+    let n = h.slots;
     let size = h.block_size;
     let d = h.endpoints;
+    let words = rows::words_for(n);
     let mut links = [[0u64; WORDS]; LOCATIONS];
     network::link_rows(s, h, &mut links);
     let mut services = [[0u64; WORDS]; ENDPOINTS];
@@ -114,13 +118,13 @@ pub fn weigh_block(s: &[u8], h: Header, b: usize) -> Weights
     let protected = network::endpoint_rows(s, h, &mut weights);
     let slots = network::slot_rows(s, h);
     let held = slots.held;
-    let before = graph::walk(links, held, rows::no_range());
-    let after = graph::walk(links, held, network::block_range(size, b));
+    let before = graph::walk(links, held, n, rows::no_range());
+    let after = graph::walk(links, held, n, network::block_range(size, b));
     let reached = before.reached;
     let still = after.reached;
     let none = [0u64; WORDS];
-    let all = lost_between(&services, &weights, protected, d, reached, none);
-    let lost = lost_between(&services, &weights, protected, d, reached, still);
+    let all = lost_between(&services, &weights, protected, d, reached, none, words);
+    let lost = lost_between(&services, &weights, protected, d, reached, still, words);
     Weights {
         served: all.weight,
         loss: lost.weight,

@@ -13,9 +13,10 @@ use Rattle.packing.specs.Packing.{Field, fieldsOf}
 use Rattle.packing.specs.Holding.{span, Fit}
 use Rattle.packing.proofs.Fields.{span-append, fit-append, fit-flat, span-flat}
 use Rattle.packing.proofs.Packed.{length-packed}
+use Rattle.picture.specs.declared.Edition.{Edition}
 use Rattle.picture.specs.declared.Header.{Header}
 use Rattle.picture.specs.declared.Link.{Link}
-use Rattle.picture.specs.Layout.{Edition, edition1, headerWidths, slotWidths, endpointWidths, linkWidths, serviceLinkWidths, slotsAt, endpointsAt, linksAt, serviceLinksAt, endAt, sizeOf}
+use Rattle.picture.specs.Layout.{edition1, headerWidths, slotWidths, endpointWidths, linkWidths, serviceLinkWidths, slotsAt, endpointsAt, linksAt, serviceLinksAt, endAt, sizeOf}
 use Rattle.picture.specs.Picture.{Slot, Endpoint, Picture, slotOf, endpointOf}
 use Rattle.picture.specs.Rules.{noLink}
 use Rattle.picture.specs.Answers.{headerValues}
@@ -66,27 +67,27 @@ module _ (e : Edition) (p : Picture) where
   unfolding slotsAt
   header-ends = zero-add (span header-of) ∙ header-span e (headerFor p)
 
-  pub slots-end : slotsAt e + span slots-of ≡ endpointsAt e (headerFor p)
+  pub slots-end : slotsAt e + span slots-of ≡ endpointsAt (headerFor p)
   unfolding endpointsAt headerFor
   slots-end = rw (span-flat slotFields (sum slotWidths) slot-span (p .slots))
 
-  pub endpoints-end : endpointsAt e (headerFor p) + span endpoints-of ≡ linksAt e (headerFor p)
+  pub endpoints-end : endpointsAt (headerFor p) + span endpoints-of ≡ linksAt (headerFor p)
   unfolding linksAt headerFor
   endpoints-end = rw (span-flat endpointFields (sum endpointWidths) endpoint-span (p .endpoints))
 
-  pub links-end : linksAt e (headerFor p) + span links-of ≡ serviceLinksAt e (headerFor p)
+  pub links-end : linksAt (headerFor p) + span links-of ≡ serviceLinksAt (headerFor p)
   unfolding serviceLinksAt headerFor linkWidths
   links-end = rw (span-flat (linkFields (linkWidths e)) (sum (linkWidths e)) (link-span _ _) (p .links))
 
-  pub services-end : serviceLinksAt e (headerFor p) + span services-of ≡ endAt e (headerFor p)
+  pub services-end : serviceLinksAt (headerFor p) + span services-of ≡ endAt (headerFor p)
   unfolding endAt headerFor serviceLinkWidths
   services-end = rw (span-flat (linkFields (serviceLinkWidths e)) (sum (serviceLinkWidths e)) (link-span _ _) (p .serviceLinks))
 
-  pub span-picture : span (pictureFields e p) ≡ endAt e (headerFor p)
+  pub span-picture : span (pictureFields e p) ≡ endAt (headerFor p)
   unfolding pictureFields
   span-picture = simp span-append (omega (arith, header-ends, slots-end, endpoints-end, links-end, services-end))
 
-  pub length-picture : length (pictureBytes e p) ≡ sizeOf e (headerFor p)
+  pub length-picture : length (pictureBytes e p) ≡ sizeOf (headerFor p)
   unfolding pictureBytes sizeOf
   length-picture = length-packed (pictureFields e p) ∙ ap (λ (n : ℕ). (n + 7) / 8) span-picture
 

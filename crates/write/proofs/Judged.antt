@@ -35,9 +35,9 @@ module _ (l : Lists) where
   unfolding handedRules handedFaults headerFor
   handed-judged rs xs j =
       judge-right _ _ (eqb (length (l .states)) (length (l .near))) _ (λ z. absurd (omega arith)) (eqb→eq _ _) (eq-T _ _)
-      (judge-right _ _ (sizesRight edition1 h) _ (λ z. absurd (omega arith)) (right-sizes edition1 h) (sizes-right edition1 h)
+      (judge-right _ _ (sizesRight h) _ (λ z. absurd (omega arith)) (right-sizes h) (sizes-right h)
       (judge-right _ _ (eqb (length (l .weights)) (length (l .protected))) _ (λ z. absurd (omega arith)) (eqb→eq _ _) (eq-T _ _)
-      (judge-right _ _ (countsRight h) _ (λ z. absurd (omega arith)) (right-counts edition1 h) (counts-right edition1 h)
+      (judge-right _ _ (countsRight h) _ (λ z. absurd (omega arith)) (right-counts h) (counts-right h)
       (lists-judged h p refl rs xs j))))
 
   pub write-judged : (buf : List ℕ) → Judged (writeRules l buf) (writeFault l buf)

@@ -27,7 +27,7 @@ columnFaults l h =
     ∷ []
 
 module _ (l : Lists) (slots : length (l .states) ≡ length (l .near)) where
-  pub sizes-even : sizesRight edition1 (columnsHeader l) ≡ sizesRight edition1 (headerFor (pictureFrom l))
+  pub sizes-even : sizesRight (columnsHeader l) ≡ sizesRight (headerFor (pictureFrom l))
   unfolding sizesRight columnsHeader headerFor pictureFrom
   sizes-even = rw (length-zip slotFrom (l .states) (l .near) slots)
 
@@ -60,9 +60,9 @@ module _ {l : Lists} (r : Right l) where
   pub right-limited : Limited (columnsHeader l)
   right-limited = rw right-header (record { slots = r .sizes .slots-most; counts = r .counts })
 
-  pub right-size : sizeOf edition1 (columnsHeader l) ≡ sizeFor l
+  pub right-size : sizeOf (columnsHeader l) ≡ sizeFor l
   unfolding sizeFor
-  right-size = ap (sizeOf edition1) right-header
+  right-size = ap (sizeOf) right-header
 
 -- no picture that is written is longer than the longest
 pub size-most : (l : Lists) (buf : List ℕ) → writeFault l buf ≡ 0 → sizeFor l ≤ pictureMax

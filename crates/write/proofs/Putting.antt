@@ -91,30 +91,30 @@ module _ {l : Lists} {h : Header} {buf : List ℕ} (r : Ready l h buf) where
   slots-small = omega (arith, right .sizes .slots-most)
 
   -- the picture ends within the buffer
-  pub ready-ends : endAt edition1 h ≤ length buf * 8
+  pub ready-ends : endAt h ≤ length buf * 8
   unfolding sizeFor sizeOf
   ready-ends = rw ready-header (omega (arith, r .room))
 
   -- where the rows of each list end, the next list starts
-  pub slots-to : slotsAt edition1 + length (l .states) * sum slotWidths ≡ endpointsAt edition1 h
+  pub slots-to : slotsAt edition1 + length (l .states) * sum slotWidths ≡ endpointsAt h
   unfolding endpointsAt
   slots-to = ap (λ (n : ℕ). slotsAt edition1 + n * sum slotWidths) (sym slots-counted)
 
-  pub endpoints-to : endpointsAt edition1 h + length (l .weights) * sum endpointWidths ≡ linksAt edition1 h
+  pub endpoints-to : endpointsAt h + length (l .weights) * sum endpointWidths ≡ linksAt h
   unfolding linksAt
-  endpoints-to = ap (λ (n : ℕ). endpointsAt edition1 h + n * sum endpointWidths) (sym endpoints-counted)
+  endpoints-to = ap (λ (n : ℕ). endpointsAt h + n * sum endpointWidths) (sym endpoints-counted)
 
-  pub links-to : linksAt edition1 h + length (l .links) * sum (linkWidths edition1) ≡ serviceLinksAt edition1 h
+  pub links-to : linksAt h + length (l .links) * sum (linkWidths edition1) ≡ serviceLinksAt h
   unfolding serviceLinksAt
-  links-to = ap (λ (n : ℕ). linksAt edition1 h + n * sum (linkWidths edition1)) (sym links-counted)
+  links-to = ap (λ (n : ℕ). linksAt h + n * sum (linkWidths edition1)) (sym links-counted)
 
-  pub services-to : serviceLinksAt edition1 h + length (l .serviceLinks) * sum (serviceLinkWidths edition1) ≡ endAt edition1 h
+  pub services-to : serviceLinksAt h + length (l .serviceLinks) * sum (serviceLinkWidths edition1) ≡ endAt h
   unfolding endAt
-  services-to = ap (λ (n : ℕ). serviceLinksAt edition1 h + n * sum (serviceLinkWidths edition1)) (sym services-counted)
+  services-to = ap (λ (n : ℕ). serviceLinksAt h + n * sum (serviceLinkWidths edition1)) (sym services-counted)
 
   -- rows that end before the picture does have room in a buffer that is as long
   module _ {mid : List ℕ} (same : length mid ≡ length buf) where
-    part-room : {at held w n : ℕ} → at + n * w ≤ endAt edition1 h → held < 2 ^ (at % 8) → Room at held w n mid
+    part-room : {at held w n : ℕ} → at + n * w ≤ endAt h → held < 2 ^ (at % 8) → Room at held w n mid
     part-room m few = record { fits = omega (arith, ready-ends); low = omega (arith, ordered h ready-limited .small); few = few }
 
     pub header-ready : HeaderFits h mid
@@ -128,12 +128,12 @@ module _ {l : Lists} {h : Header} {buf : List ℕ} (r : Ready l h buf) where
         let o = ordered h ready-limited in
         record { even = right .slots-even; state = states-small; room = part-room (omega (arith, slots-to, o)) (lit< tt) }
 
-    pub endpoints-ready : {held : ℕ} → held < 2 ^ (endpointsAt edition1 h % 8) → EndpointsFit (endpointsAt edition1 h) held (l .weights) (l .protected) mid
+    pub endpoints-ready : {held : ℕ} → held < 2 ^ (endpointsAt h % 8) → EndpointsFit (endpointsAt h) held (l .weights) (l .protected) mid
     endpoints-ready few =
         let o = ordered h ready-limited in
         record { even = right .endpoints-even; room = part-room (omega (arith, endpoints-to, o)) few }
 
-    pub links-ready : {held : ℕ} → held < 2 ^ (linksAt edition1 h % 8) → LinksFit (linksAt edition1 h) held 8 8 (l .links) mid
+    pub links-ready : {held : ℕ} → held < 2 ^ (linksAt h % 8) → LinksFit (linksAt h) held 8 8 (l .links) mid
     unfolding pictureFrom linkWidths sum
     links-ready few =
         let o = ordered h ready-limited in
@@ -144,7 +144,7 @@ module _ {l : Lists} {h : Header} {buf : List ℕ} (r : Ready l h buf) where
           room = part-room (omega (arith, links-to, o)) few;
         }
 
-    pub services-ready : {held : ℕ} → held < 2 ^ (serviceLinksAt edition1 h % 8) → LinksFit (serviceLinksAt edition1 h) held 8 8 (l .serviceLinks) mid
+    pub services-ready : {held : ℕ} → held < 2 ^ (serviceLinksAt h % 8) → LinksFit (serviceLinksAt h) held 8 8 (l .serviceLinks) mid
     unfolding pictureFrom serviceLinkWidths sum
     services-ready few =
         record {
@@ -157,11 +157,11 @@ module _ {l : Lists} {h : Header} {buf : List ℕ} (r : Ready l h buf) where
   -- ---- the parts one behind the other, and the fill
 
   pub picture-put : {a b c d e : List ℕ} {i j k m : ℕ} → Put buf 0 (headerFields edition1 h) a
-      → Follows a (slotsAt edition1) 0 (slots-of edition1 (pictureFrom l)) b (endpointsAt edition1 h) i
-      → Follows b (endpointsAt edition1 h) i (endpoints-of edition1 (pictureFrom l)) c (linksAt edition1 h) j
-      → Follows c (linksAt edition1 h) j (links-of edition1 (pictureFrom l)) d (serviceLinksAt edition1 h) k
-      → Follows d (serviceLinksAt edition1 h) k (services-of edition1 (pictureFrom l)) e (endAt edition1 h) m
-      → Put buf 0 (pictureFields edition1 (pictureFrom l)) (flushed e (endAt edition1 h) m)
+      → Follows a (slotsAt edition1) 0 (slots-of edition1 (pictureFrom l)) b (endpointsAt h) i
+      → Follows b (endpointsAt h) i (endpoints-of edition1 (pictureFrom l)) c (linksAt h) j
+      → Follows c (linksAt h) j (links-of edition1 (pictureFrom l)) d (serviceLinksAt h) k
+      → Follows d (serviceLinksAt h) k (services-of edition1 (pictureFrom l)) e (endAt h) m
+      → Put buf 0 (pictureFields edition1 (pictureFrom l)) (flushed e (endAt h) m)
   unfolding pictureFields
   picture-put {a} header slots endpoints links services =
       put-behind 0 (header-of edition1 p) _ (put-same header refl (ap (headerFields edition1) ready-header))
@@ -176,14 +176,14 @@ module _ {l : Lists} {h : Header} {buf : List ℕ} (r : Ready l h buf) where
       (sym (header-ends edition1 p)) refl)
 
   pub picture-written : {e out : List ℕ} → Put buf 0 (pictureFields edition1 (pictureFrom l)) e
-      → out ≡ putField e (endAt edition1 h) ((endAt edition1 h + 7) / 8 * 8 - endAt edition1 h) 0 → Bytes buf → Bytes out → Written l buf out
+      → out ≡ putField e (endAt h) ((endAt h + 7) / 8 * 8 - endAt h) 0 → Bytes buf → Bytes out → Written l buf out
   unfolding Holds span sizeFor sizeOf pictureBytes
   picture-written {e} {out} put made old new =
       let fs = pictureFields edition1 p in
-      let fill : Field = record { width = (endAt edition1 h + 7) / 8 * 8 - endAt edition1 h; value = 0 } in
-      let long : span fs ≡ endAt edition1 h = rw ready-header (span-picture edition1 p) in
-      let end : endAt edition1 (headerFor p) ≡ endAt edition1 h = ap (endAt edition1) (sym ready-header) in
-      let last : Put e (endAt edition1 h) (fill ∷ []) out = rw made (put-one e (endAt edition1 h) fill (pow-pos (fill .width)) (omega (arith, put .long, r .room))) in
+      let fill : Field = record { width = (endAt h + 7) / 8 * 8 - endAt h; value = 0 } in
+      let long : span fs ≡ endAt h = rw ready-header (span-picture edition1 p) in
+      let end : endAt (headerFor p) ≡ endAt h = ap (endAt) (sym ready-header) in
+      let last : Put e (endAt h) (fill ∷ []) out = rw made (put-one e (endAt h) fill (pow-pos (fill .width)) (omega (arith, put .long, r .room))) in
       let all = put-behind 0 fs (fill ∷ []) put (put-same last (omega (arith, long)) refl) in
       let held = holds-append out 0 fs (fill ∷ []) (all .holds) in
       held-packed buf out fs (sizeFor l) (holds-fit out 0 fs (held .0)) (omega (arith, long)) (r .room) (all .long) new old (held .0)

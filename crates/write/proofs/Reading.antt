@@ -13,8 +13,9 @@ use Rattle.lists.proofs.Ranges.{getD-map-range, range-made}
 use Rattle.packing.specs.Packing.{Field, fieldsOf}
 use Rattle.packing.specs.Holding.{span, Holds}
 use Rattle.packing.proofs.Fields.{holds-append, append-holds, holds-flat, flat-holds}
+use Rattle.picture.specs.declared.Edition.{Edition}
 use Rattle.picture.specs.declared.Header.{Header}
-use Rattle.picture.specs.Layout.{Edition, edition1, headerWidths, slotWidths, endpointWidths, linkWidths, serviceLinkWidths, fieldIn, slotsAt, endpointsAt, linksAt, serviceLinksAt}
+use Rattle.picture.specs.Layout.{edition1, headerWidths, slotWidths, endpointWidths, linkWidths, serviceLinkWidths, fieldIn, slotsAt, endpointsAt, linksAt, serviceLinksAt}
 use Rattle.picture.specs.Picture.{Picture, headerIn, slotAt, endpointAt, linkAt, rows, pictureWith, headerOf, pictureOf}
 use Rattle.picture.specs.Faults.{pictureFault}
 use Rattle.picture.specs.Answers.{headerValues}
@@ -103,9 +104,9 @@ module _ {A : Type 0} {g : A → List Field} {w : ℕ} {f : ℕ → A} {bs : Lis
 record Parts (e : Edition) (h : Header) (p : Picture) (bs : List ℕ) : Type 0 where
   pub header : Holds bs 0 (headerFields e h)
   pub slots : Holds bs (slotsAt e) (slots-of e p)
-  pub endpoints : Holds bs (endpointsAt e h) (endpoints-of e p)
-  pub links : Holds bs (linksAt e h) (links-of e p)
-  pub services : Holds bs (serviceLinksAt e h) (services-of e p)
+  pub endpoints : Holds bs (endpointsAt h) (endpoints-of e p)
+  pub links : Holds bs (linksAt h) (links-of e p)
+  pub services : Holds bs (serviceLinksAt h) (services-of e p)
 
 module _ (e : Edition) (p : Picture) (bs : List ℕ) where
   held-parts : Holds bs 0 (pictureFields e p) → Parts e (headerFor p) p bs
@@ -113,8 +114,8 @@ module _ (e : Edition) (p : Picture) (bs : List ℕ) where
   held-parts h =
       let a = holds-append bs 0 (header-of e p) _ h in
       let b = holds-append bs (slotsAt e) (slots-of e p) _ (rw (header-ends e p) at (a .1)) in
-      let c = holds-append bs (endpointsAt e (headerFor p)) (endpoints-of e p) _ (rw (slots-end e p) at (b .1)) in
-      let d = holds-append bs (linksAt e (headerFor p)) (links-of e p) _ (rw (endpoints-end e p) at (c .1)) in
+      let c = holds-append bs (endpointsAt (headerFor p)) (endpoints-of e p) _ (rw (slots-end e p) at (b .1)) in
+      let d = holds-append bs (linksAt (headerFor p)) (links-of e p) _ (rw (endpoints-end e p) at (c .1)) in
       record { header = a .0; slots = b .0; endpoints = c .0; links = d .0; services = rw (links-end e p) at (d .1) }
 
   parts-held : Parts e (headerFor p) p bs → Holds bs 0 (pictureFields e p)
@@ -122,15 +123,15 @@ module _ (e : Edition) (p : Picture) (bs : List ℕ) where
   parts-held h =
       append-holds bs 0 (header-of e p) _ (h .header) (rw (header-ends e p)
       (append-holds bs (slotsAt e) (slots-of e p) _ (h .slots) (rw (slots-end e p)
-      (append-holds bs (endpointsAt e (headerFor p)) (endpoints-of e p) _ (h .endpoints) (rw (endpoints-end e p)
-      (append-holds bs (linksAt e (headerFor p)) (links-of e p) (services-of e p) (h .links) (rw (links-end e p) (h .services))))))))
+      (append-holds bs (endpointsAt (headerFor p)) (endpoints-of e p) _ (h .endpoints) (rw (endpoints-end e p)
+      (append-holds bs (linksAt (headerFor p)) (links-of e p) (services-of e p) (h .links) (rw (links-end e p) (h .services))))))))
 
 -- ---- bytes that hold a picture's fields say the picture
 
 pub record Says (e : Edition) (p : Picture) (bs : List ℕ) : Type 0 where
   pub edition : fieldIn bs (headerWidths e) 0 0 ≡ e .number
   pub header : headerIn e bs ≡ headerFor p
-  pub picture : pictureWith e (headerFor p) bs ≡ p
+  pub picture : pictureWith (headerFor p) bs ≡ p
 
 module _ (e : Edition) (p : Picture) (bs : List ℕ) (held : Holds bs 0 (pictureFields e p)) where
   parts : Parts e (headerFor p) p bs
@@ -152,7 +153,7 @@ module _ (e : Edition) (p : Picture) (bs : List ℕ) (held : Holds bs 0 (picture
         «service_links» = header-read 6 (lit< tt) i;
       }
 
-  picture-said : pictureWith e (headerFor p) bs ≡ p
+  picture-said : pictureWith (headerFor p) bs ≡ p
   unfolding pictureWith headerFor linkWidths serviceLinkWidths
   picture-said =
       let ss = rows-said (slot-row bs) _ (p .slots) (parts .slots) in
@@ -167,16 +168,16 @@ module _ (e : Edition) (p : Picture) (bs : List ℕ) (held : Holds bs 0 (picture
 -- ---- and the other way
 
 -- the header of what the bytes say under a header
-pub header-kept : (e : Edition) (h : Header) (bs : List ℕ) → headerFor (pictureWith e h bs) ≡ h
+pub header-kept : (e : Edition) (h : Header) (bs : List ℕ) → headerFor (pictureWith h bs) ≡ h
 unfolding headerFor pictureWith
 header-kept e h bs =
-    let ss = slots-length e h bs in
-    let cs = endpoints-length e h bs in
-    let ls = links-length e h bs in
-    let vs = services-length e h bs in
+    let ss = slots-length h bs in
+    let cs = endpoints-length h bs in
+    let ls = links-length h bs in
+    let vs = services-length h bs in
     λ i. record { «block_size» = h .«block_size»; slots = ss i; «near_limit» = h .«near_limit»; endpoints = cs i; links = ls i; «service_links» = vs i }
 
-said-parts : (e : Edition) (bs : List ℕ) → fieldIn bs (headerWidths e) 0 0 ≡ e .number → Parts e (headerIn e bs) (pictureWith e (headerIn e bs) bs) bs
+said-parts : (e : Edition) (bs : List ℕ) → fieldIn bs (headerWidths e) 0 0 ≡ e .number → Parts e (headerIn e bs) (pictureWith (headerIn e bs) bs) bs
 unfolding pictureWith headerFields headerIn headerValues headerWidths linkWidths serviceLinkWidths range
 said-parts e bs n =
     record {

@@ -9,7 +9,7 @@ use Rattle.write.specs.Columns.{Lists, pictureFrom, headerFor}
 -- lists that keep their rules, by name
 pub record Right (l : Lists) : Type 0 where
   pub slots-even : length (l .states) ≡ length (l .near)
-  pub sizes : Sizes edition1 (headerFor (pictureFrom l))
+  pub sizes : Sizes (headerFor (pictureFrom l))
   pub endpoints-even : length (l .weights) ≡ length (l .protected)
   pub counts : Counts (headerFor (pictureFrom l))
   pub states : States (headerFor (pictureFrom l) .slots) (pictureFrom l)

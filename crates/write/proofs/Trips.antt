@@ -83,9 +83,9 @@ module _ (l : Lists) (t : Typed l) (r : Right l) where
 
   picture-back : pictureOf bs ≡ p
   unfolding pictureOf headerOf
-  picture-back = ap (λ (h : Header). pictureWith edition1 h bs) (says .header) ∙ says .picture
+  picture-back = ap (λ (h : Header). pictureWith h bs) (says .header) ∙ says .picture
 
-  ends : Ends edition1 (headerFor p) bs
+  ends : Ends (headerFor p) bs
   unfolding pictureBytes sizeOf
   ends = record { fill = λ i a b. packed-fill (pictureFields edition1 p) i (omega (arith, span-picture edition1 p)) (omega (arith, span-picture edition1 p)); end = length-picture edition1 p }
 
@@ -152,7 +152,7 @@ module _ (bs : List ℕ) (z : pictureFault bs ≡ 0) where
       let fs = pictureFields edition1 (pictureFrom l) in
       let held : Holds bs 0 fs = rw picture-made (accepted-held bs z) in
       let size : (span fs + 7) / 8 ≡ length bs = sym (length-packed fs) ∙ length-picture edition1 (pictureFrom l) ∙ size-same in
-      let ends = span-picture edition1 (pictureFrom l) ∙ ap (endAt edition1) header-same in
+      let ends = span-picture edition1 (pictureFrom l) ∙ ap (endAt) header-same in
       let whole = held-packed bs bs fs (length bs) (holds-fit bs 0 fs held) size (omega arith) refl b b held (λ i s m. kept .ends .fill i (omega arith) (omega (arith, kept .ends .end))) (λ i s. refl) in
       sym (whole ∙ rw (drop-length bs, append-nil))
 

@@ -18,7 +18,7 @@ handedFaults l =
     let p : Picture = pictureFrom l in
     let h : Header = headerFor p in
     on (not (eqb (length (l .states)) (length (l .near)))) 3
-    ∷ on (not (sizesRight edition1 h)) 3
+    ∷ on (not (sizesRight h)) 3
     ∷ on (not (eqb (length (l .weights)) (length (l .protected)))) 4
     ∷ on (not (countsRight h)) 4
     ∷ listFaults h p

@@ -3,9 +3,10 @@ use mathlib.Core.List.{List, [], _∷_, _++_, map}
 use Prim.Native.Nat.{ℕ}
 use Rattle.lists.specs.Lists.{on, flat}
 use Rattle.packing.specs.Packing.{Field, fieldsOf, packed}
+use Rattle.picture.specs.declared.Edition.{Edition}
 use Rattle.picture.specs.declared.Header.{Header}
 use Rattle.picture.specs.declared.Link.{Link}
-use Rattle.picture.specs.Layout.{Edition, headerWidths, slotWidths, endpointWidths, linkWidths, serviceLinkWidths}
+use Rattle.picture.specs.Layout.{headerWidths, slotWidths, endpointWidths, linkWidths, serviceLinkWidths}
 use Rattle.picture.specs.Picture.{Slot, Endpoint, Picture}
 use Rattle.picture.specs.Answers.{headerValues}
 use Rattle.write.specs.Columns.{headerFor}

@@ -13,7 +13,7 @@ use Rattle.write.specs.Columns.{Lists, pictureFrom, headerFor}
 
 -- the bytes that the picture of the lists takes
 unfoldable pub sizeFor : Lists → ℕ
-sizeFor l = sizeOf edition1 (headerFor (pictureFrom l))
+sizeFor l = sizeOf (headerFor (pictureFrom l))
 
 -- the rules of the lists with their numbers, in the order in which they are judged. Columns of unequal length are no list
 unfoldable pub handedRules : Lists → List Rule
@@ -21,7 +21,7 @@ handedRules l =
     let p : Picture = pictureFrom l in
     let h : Header = headerFor p in
     record { number = 3; holds = length (l .states) ≡ length (l .near) }
-    ∷ record { number = 3; holds = Sizes edition1 h }
+    ∷ record { number = 3; holds = Sizes h }
     ∷ record { number = 4; holds = length (l .weights) ≡ length (l .protected) }
     ∷ record { number = 4; holds = Counts h }
     ∷ listRules h p

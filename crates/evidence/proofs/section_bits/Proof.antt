@@ -1,18 +1,22 @@
 -- `section_bits` tells what a section takes. Assumes nothing.
-use mathlib.Core.Path.{sym}
-use Rattle.evidence.proofs.Places.{section-bits}
-use borrow.Author.Needs.{needs}
+use mathlib.Core.Path.{ap}
+use Prim.Native.Nat.{ℕ, _+_}
+use native.Mathlib.Omega.{arith}
+use Rattle.lists.specs.Lists.{sum}
+use Rattle.evidence.specs.Layout.{sectionHeadWidths, sectionBits}
+use Rattle.evidence.proofs.Places.{forest-low}
 use Rattle.evidence.proofs.section_bits.Statement.{statement}
 use Rattle.evidence.proofs.section_bits.Tie as tie
 
-mul-result : tie.Need-mul-result
-mul-result c = search needs
+forest-bits-requires : tie.Need-forest-bits-requires
+forest-bits-requires c κs = c .pre
 
 add-result : tie.Need-add-result
-add-result c = search needs
+add-result c = omega (arith, c .forest-bits .ensures, forest-low _ (c .before .pre))
 
 returns : tie.Need-returns
-returns c = sym (section-bits (c .args .n))
+unfolding sectionBits sectionHeadWidths sum
+returns c = ap (λ (x : ℕ). 40 + x) (c .forest-bits .ensures)
 
 pub section-bits-spec : {M : Type 1} → statement M
-section-bits-spec = tie.close (tie.spec mul-result add-result returns)
+section-bits-spec = tie.close (tie.spec forest-bits-requires add-result returns)

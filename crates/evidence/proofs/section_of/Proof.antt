@@ -2,14 +2,14 @@
 use mathlib.Core.Path.{_∙_}
 use Prim.Native.Nat.{_^_, _<_}
 use native.Mathlib.Omega.{arith}
-use Rattle.evidence.proofs.Places.{section-small, block-at, loss-at, mark-at}
+use Rattle.evidence.proofs.Places.{section-low, block-at, loss-at, mark-at}
 use borrow.Author.Needs.{needs}
 use Rattle.evidence.proofs.section_of.Statement.{statement}
 use Rattle.evidence.proofs.section_of.Tie as tie
 
 -- a section starts at a small place
-low : (c : tie.After-section-at) → c .section-at .result < 2 ^ 20
-low c = omega (arith, c .section-at .ensures, section-small (c .before .before .args .n) (c .before .before .args .i) (c .before .before .pre .0) (c .before .before .pre .1))
+low : (c : tie.After-section-at) → c .section-at .result < 2 ^ 21
+low c = let p = c .before .before .pre in omega (arith, c .section-at .ensures, section-low _ (p .0) _ (p .1))
 
 section-at-requires : tie.Need-section-at-requires
 section-at-requires c κs = search needs
@@ -33,9 +33,9 @@ returns : tie.Need-returns
 returns c =
     let a = c .before .before .before .before .before .args in
     let e = c .before .before .before .section-at .ensures in
-    let b = c .before .before .field .ensures ∙ block-at (a .n) (a .ev .now) (a .i) e in
-    let l = c .before .field2 .ensures ∙ loss-at (a .n) (a .ev .now) (a .i) e in
-    let m = c .field3 .ensures ∙ mark-at (a .n) (a .ev .now) (a .i) e in
+    let b = c .before .before .field .ensures ∙ block-at (a .h .edition) (a .h .slots) (a .ev .now) (a .i) e in
+    let l = c .before .field2 .ensures ∙ loss-at (a .h .edition) (a .h .slots) (a .ev .now) (a .i) e in
+    let m = c .field3 .ensures ∙ mark-at (a .h .edition) (a .h .slots) (a .ev .now) (a .i) e in
     λ j. record { block = b j; loss = l j; mark = m j }
 
 pub section-of-spec : {M : Type 1} → statement M

@@ -14,7 +14,7 @@ use Rattle.picture.specs.Inner.{Read}
 use Rattle.picture.specs.Layout.{edition1}
 use Rattle.picture.specs.Picture.{Picture, pictureOf, pictureWith}
 use Rattle.picture.specs.Rules.{noLink}
-use Rattle.picture.proofs.Facts.{read-picture, read-sizes, read-limited, read-links, read-services, read-links-length, read-services-length}
+use Rattle.picture.proofs.Facts.{read-picture, read-sizes, read-limited, read-links, read-services, read-links-length, read-services-length, read-slots-most}
 use Rattle.network.specs.Words.{joins}
 use Rattle.network.specs.Rows.{RowsOf, countOf, rowsFor, tableOf}
 use Rattle.network.proofs.Making.{Linking, linking-begun, linking-next, linking-ended}
@@ -49,11 +49,11 @@ module _ (s : List ℕ) (h : Header) (r : Read s h) where
   long true = length-map (pictureOf s .serviceLinks) turned ∙ read-services-length s h r
 
   -- what is read is a mark
-  link : (b : Bool) (i : ℕ) (l : Link) → b ≡ false → l ≡ getD (pictureWith edition1 h s .links) i noLink → l ≡ getD (marksOf b (pictureOf s)) i noLink
+  link : (b : Bool) (i : ℕ) (l : Link) → b ≡ false → l ≡ getD (pictureWith h s .links) i noLink → l ≡ getD (marksOf b (pictureOf s)) i noLink
   link b i l f e = rw (f, sym (read-picture s h r)) e
 
-  service : (b : Bool) (i : ℕ) (l : Link) → b ≡ true → l ≡ getD (pictureWith edition1 h s .serviceLinks) i noLink → turned l ≡ getD (marksOf b (pictureOf s)) i noLink
-  service b i l t e = rw (t, sym (read-picture s h r)) (ap turned e ∙ sym (List·getD-map turned (pictureWith edition1 h s .serviceLinks) i noLink))
+  service : (b : Bool) (i : ℕ) (l : Link) → b ≡ true → l ≡ getD (pictureWith h s .serviceLinks) i noLink → turned l ≡ getD (marksOf b (pictureOf s)) i noLink
+  service b i l t e = rw (t, sym (read-picture s h r)) (ap turned e ∙ sym (List·getD-map turned (pictureWith h s .serviceLinks) i noLink))
 
 abbrev Inv-loop : tie.InvT-loop
 Inv-loop s h count services table₀ i₀ table i = Linking (rowsFor services) (marksOf services (pictureOf s)) table i
@@ -86,7 +86,7 @@ mark-requires c κs =
     let below = nth-service-link-requires t κs .1 in
     let small : l .i < length (pictureOf (s .args .s .now) .serviceLinks) = omega (arith, read-services-length _ _ (s .pre .0), below) in
     rw (c .before .nth-service-link .ensures, read-picture _ _ (s .pre .0))
-    (omega (arith, many, n .counts .endpoints-most, k .endpoint-most (l .i) small), omega (arith, k .location (l .i) small))
+    (omega (arith, many, n .counts .endpoints-most, k .endpoint-most (l .i) small), omega (arith, read-slots-most _ _ (s .pre .0), k .location (l .i) small))
 
 nth-link-requires : tie.Need-nth-link-requires Inv-loop μ-loop
 nth-link-requires c κs =
@@ -99,7 +99,7 @@ mark-requires-2 c κs =
     let s = start (e .before .before) in
     let l = e .before .before .loop in
     let k = read-links _ _ (s .pre .0) in
-    let z = read-sizes _ _ (s .pre .0) in
+    let z = read-slots-most _ _ (s .pre .0) in
     let many = l .inv .many ∙ ap rowsFor (e .if1 .left) in
     let below = nth-link-requires e κs .1 in
     let small : l .i < length (pictureOf (s .args .s .now) .links) = omega (arith, read-links-length _ _ (s .pre .0), below) in

@@ -9,7 +9,7 @@ use Rattle.rows.specs.Rows.{slotsMax, rowWords}
 use Rattle.picture.specs.declared.Header.{Header}
 use Rattle.picture.specs.Inner.{Read}
 use Rattle.picture.specs.Picture.{Picture, pictureOf, slotOf}
-use Rattle.picture.proofs.Facts.{read-limited, read-picture, read-slots-length}
+use Rattle.picture.proofs.Facts.{read-limited, read-picture, read-slots-length, read-slots-most}
 use Rattle.network.specs.Words.{isHeld}
 use Rattle.network.specs.Tests.{isNearHeld}
 use Rattle.network.proofs.Slots.{slots-looked}
@@ -35,7 +35,7 @@ abbrev turn : tie.After-is-held Inv-loop μ-loop → tie.At-loop Inv-loop μ-loo
 turn c = c .before .before
 
 small : (c : tie.At-loop Inv-loop μ-loop) → c .before .before .args .h .slots ≤ slotsMax
-small c = read-limited _ _ (c .loop .inv .read) .slots
+small c = read-slots-most _ _ (c .loop .inv .read)
 
 -- a held slot is told by its near mark, and another one is not looked at
 near-told : (p : Picture) (v : ℕ) {near : Bool} → isHeld p v ≡ true → near ≡ slotOf p v .near → isNearHeld p v ≡ near

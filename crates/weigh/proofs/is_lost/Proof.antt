@@ -7,10 +7,10 @@ use Rattle.weigh.proofs.is_lost.Statement.{statement}
 use Rattle.weigh.proofs.is_lost.Tie as tie
 
 meet-requires : tie.Need-meet-requires
-meet-requires c κs = search needs
+meet-requires c κs = c .pre .0
 
 meet-requires-2 : tie.Need-meet-requires-2
-meet-requires-2 c κs = search needs
+meet-requires-2 c κs = c .before .before .pre .1
 
 returns : tie.Need-returns
 returns c =

@@ -14,6 +14,7 @@ use Rattle.weigh.specs.Sums.{Small}
 use Rattle.weigh.specs.declared.Lost.{Lost}
 use Rattle.weigh.proofs.Picking.{added-hit, added-miss, Picking, picking-begun, picking-next, picking-ended}
 use borrow.Author.Needs.{needs}
+use Rattle.rows.proofs.Marks.{less-narrow}
 use Rattle.weigh.proofs.lost_between.Statement.{statement}
 use Rattle.weigh.proofs.lost_between.Tie as tie
 
@@ -29,10 +30,10 @@ abbrev parted : ℕ → ℕ → Lost
 parted sum mark = record { weight = sum / 256; count = sum % 256; mark = mark }
 
 abbrev Inv-loop : tie.InvT-loop
-Inv-loop services weights d after protected gone sum₀ mark₀ c₀ sum mark c = Loop services weights protected d gone after (parted sum mark) c
+Inv-loop services weights d after words protected gone sum₀ mark₀ c₀ sum mark c = Loop services weights protected d gone after (parted sum mark) c
 
 abbrev μ-loop : tie.MeasureT-loop
-μ-loop services weights d after protected gone sum₀ mark₀ c₀ sum mark c = c
+μ-loop services weights d after words protected gone sum₀ mark₀ c₀ sum mark c = c
 
 -- the places of the code: the loop's test, and where the endpoint at hand is found lost or not
 abbrev turn : tie.After-is-lost Inv-loop μ-loop → tie.At-loop Inv-loop μ-loop
@@ -66,7 +67,7 @@ mark-next c =
     ⊎-elim (λ x. ap set (hit ∙ x .0 .taken) ∙ sym (x .1)) (λ x. ap set (hit ∙ x .0 .left) ∙ zero-add mark ∙ sym (x .1)) (c .if2 .came)
 
 minus-requires : tie.Need-minus-requires Inv-loop μ-loop
-minus-requires c κs = search needs
+minus-requires c κs = c .pre .3
 
 loop-holds : tie.Need-loop-holds Inv-loop μ-loop
 loop-holds c =
@@ -79,7 +80,7 @@ element-copy-out-row : tie.Need-element-copy-out-row Inv-loop μ-loop
 element-copy-out-row c = search needs
 
 is-lost-requires : tie.Need-is-lost-requires Inv-loop μ-loop
-is-lost-requires c κs = search needs
+is-lost-requires c κs = let m = c .before .before .before in (less-narrow (m .before .pre .3) (m .minus .ensures), m .before .pre .4)
 
 mul-sum : tie.Need-mul-sum Inv-loop μ-loop
 mul-sum c = search needs
@@ -122,8 +123,8 @@ loop-again c =
           (sums-next (c .before .before .before) .0) (sums-next (c .before .before .before) .1) (mark-next c);
     }
 
-cast-t29 : tie.Need-cast-t29 Inv-loop μ-loop
-cast-t29 c = omega arith
+cast-t30 : tie.Need-cast-t30 Inv-loop μ-loop
+cast-t30 c = omega arith
 
 returns : tie.Need-returns Inv-loop μ-loop
 returns c =
@@ -150,5 +151,5 @@ lost-between-spec =
     sub-c
     loop-less
     loop-again
-    cast-t29
+    cast-t30
     returns)

@@ -1,17 +1,18 @@
 -- `weigh_block` weighs a block of an accepted picture. Assumes nothing.
 use Prim.Native.Nat.{ℕ, suc}
-use Rattle.rows.specs.Rows.{marked, locationsMax, rowWords}
+use Rattle.rows.specs.Rows.{marked, Narrow, locationsMax, rowWords}
+use Rattle.graph.specs.Held.{SlotsOnly}
 use Rattle.graph.specs.Steps.{Walked}
 use Rattle.picture.specs.Layout.{endpointsMax}
 use Rattle.picture.specs.Picture.{Picture, pictureOf}
 use Rattle.network.specs.Words.{isHeld, heldWithout, joins}
 use Rattle.network.specs.Rows.{RowsOf}
 use Rattle.network.proofs.Named.{accepted-named}
-use Rattle.network.proofs.Blocks.{read-block-size, read-endpoints, read-block}
+use Rattle.network.proofs.Blocks.{read-block-size, read-slots, read-endpoints, read-block}
 use Rattle.network.proofs.Making.{clear-made}
-use Rattle.rows.proofs.Marks.{clear}
+use Rattle.rows.proofs.Marks.{clear, clear-narrow}
 use Rattle.weigh.specs.Weighing.{weightsOf}
-use Rattle.weigh.proofs.Serving.{now-walked, left-walked, sums-ready, walk-meets, served-met, loss-met, mark-met}
+use Rattle.weigh.proofs.Serving.{now-walked, left-walked, walk-narrow, sums-ready, walk-meets, served-met, loss-met, mark-met}
 use borrow.Author.Needs.{needs}
 use Rattle.weigh.proofs.weigh_block.Statement.{statement}
 use Rattle.weigh.proofs.weigh_block.Tie as tie
@@ -29,8 +30,11 @@ serving c = c .before .before
 abbrev linked : tie.After-service-link-rows → tie.After-link-rows
 linked c = c .before .before
 
+abbrev worded : tie.After-slot-rows → tie.After-words-for
+worded c = linked (serving (weighted c)) .before .before
+
 abbrev entry : tie.After-slot-rows → tie.Start
-entry c = linked (serving (weighted c)) .before .before .before
+entry c = worded c .before .before
 
 abbrev start : tie.After-walk → tie.Start
 start c = entry (slotted c)
@@ -42,11 +46,14 @@ shown c = pictureOf (start c .args .s .now)
 abbrev evicted : tie.After-walk → ℕ
 evicted c = start c .args .b
 
+words-for-requires : tie.Need-words-for-requires
+words-for-requires c κs = search needs
+
 link-rows-requires : tie.Need-link-rows-requires
-link-rows-requires c κs = (c .before .before .pre .0, clear-made locationsMax)
+link-rows-requires c κs = (c .before .before .before .pre .0, clear-made locationsMax)
 
 service-link-rows-requires : tie.Need-service-link-rows-requires
-service-link-rows-requires c κs = (c .before .before .before .before .pre .0, clear-made (suc endpointsMax))
+service-link-rows-requires c κs = (c .before .before .before .before .before .pre .0, clear-made (suc endpointsMax))
 
 endpoint-rows-requires : tie.Need-endpoint-rows-requires
 endpoint-rows-requires c κs = search needs
@@ -57,14 +64,18 @@ slot-rows-requires c κs = search needs
 no-range-requires : tie.Need-no-range-requires
 no-range-requires c κs = search needs
 
+-- the row of what is held marks slots of the header
+slots-only : (c : tie.After-slot-rows) → SlotsOnly (entry c .args .h .slots) (c .slot-rows .result .held)
+slots-only c = rw (← read-slots _ _ (entry c .pre .0)) (c .slot-rows .ensures .slots)
+
 walk-requires : tie.Need-walk-requires
-walk-requires c κs = search needs
+walk-requires c κs = slots-only (c .before .before)
 
 block-range-requires : tie.Need-block-range-requires
 block-range-requires c κs = let s = start c in read-block _ _ (s .pre .0) _ (s .pre .1)
 
 walk-requires-2 : tie.Need-walk-requires-2
-walk-requires-2 c κs = search needs
+walk-requires-2 c κs = slots-only (slotted (c .before))
 
 -- both walks are walks over the picture
 links : (c : tie.After-walk) → RowsOf locationsMax (joins (shown c .links)) (linked (serving (weighted (slotted c))) .link-rows .last .1 .1 .0)
@@ -80,13 +91,27 @@ left c =
     let w = c .before .before in
     left-walked (slotted w .slot-rows .ensures) (links w) (evicted w) (read-block-size _ _ (start w .pre .0)) (rw (c .before .block-range .ensures) at (c .walk2 .ensures))
 
+-- what the walks reach is in the words that the header's slots take
+narrow : (c : tie.After-walk) → Narrow (worded (slotted c) .words-for .result) (c .walk .result .reached)
+narrow c = rw (worded (slotted c) .words-for .ensures, ← read-slots _ _ (start c .pre .0)) (walk-narrow (slotted c .slot-rows .ensures) _ (c .walk .ensures))
+
+narrow-left : (c : tie.After-walk2) → Narrow (worded (slotted (c .before .before)) .words-for .result) (c .walk2 .result .reached)
+narrow-left c =
+    let w = c .before .before in
+    rw (worded (slotted w) .words-for .ensures, ← read-slots _ _ (start w .pre .0)) (walk-narrow (slotted w .slot-rows .ensures) _ (c .walk2 .ensures))
+
 lost-between-requires : tie.Need-lost-between-requires
 lost-between-requires c κs =
-    let s = slotted (c .before .before .before .before .before .before) in
-    sums-ready _ _ (entry s .pre .0) (serving (weighted s) .service-link-rows .ensures) (weighted s .endpoint-rows .ensures)
+    let w = c .before .before .before .before .before .before in
+    let s = slotted w in
+    sums-ready _ _ (entry s .pre .0) (serving (weighted s) .service-link-rows .ensures) (weighted s .endpoint-rows .ensures) (narrow w) (clear-narrow rowWords (narrow w .most))
 
 lost-between-requires-2 : tie.Need-lost-between-requires-2
-lost-between-requires-2 c κs = lost-between-requires (c .before .before .before) κs
+lost-between-requires-2 c κs =
+    let k = c .before .before .before .before .before .before .before in
+    let w = k .before .before in
+    let s = slotted w in
+    sums-ready _ _ (entry s .pre .0) (serving (weighted s) .service-link-rows .ensures) (weighted s .endpoint-rows .ensures) (narrow w) (narrow-left k)
 
 returns : tie.Need-returns
 unfolding weightsOf
@@ -112,6 +137,7 @@ pub weigh-block-spec : {M : Type 1} → statement M
 weigh-block-spec =
     tie.close
     (tie.spec
+    words-for-requires
     link-rows-requires
     service-link-rows-requires
     endpoint-rows-requires

@@ -45,8 +45,8 @@ past-slots : (c : tie.Else1) → Past 1 c
 unfolding handedFaults
 past-slots c = passes 3 _ (ap not (eq-eqb _ _ (slots c)))
 
-sizes : (c : tie.After-sizes-right) → sizesRight edition1 (headerFor (pictureFrom (lists (c .before)))) ≡ c .sizes-right .result
-sizes c = sym (c .sizes-right .ensures ∙ ap (sizesRight edition1) (header (c .before)) ∙ sizes-even (lists (c .before)) (slots (c .before)))
+sizes : (c : tie.After-sizes-right) → sizesRight (headerFor (pictureFrom (lists (c .before)))) ≡ c .sizes-right .result
+sizes c = sym (c .sizes-right .ensures ∙ ap (sizesRight) (header (c .before)) ∙ sizes-even (lists (c .before)) (slots (c .before)))
 
 past-sizes : (c : tie.Else2) → Past 2 (c .before .before)
 unfolding handedFaults

@@ -54,34 +54,34 @@ ready : (c : tie.After-find-places) → Ready (lists c) (start c .args .h) (star
 ready c = start c .pre
 
 -- the places that were found are the layout's
-places : (c : tie.After-find-places) → c .find-places .result ≡ placesOf edition1 (start c .args .h)
+places : (c : tie.After-find-places) → c .find-places .result ≡ placesOf (start c .args .h)
 places c = c .find-places .ensures
 
-endpoints-at : (c : tie.After-find-places) → c .find-places .result .endpoints ≡ endpointsAt edition1 (start c .args .h)
+endpoints-at : (c : tie.After-find-places) → c .find-places .result .endpoints ≡ endpointsAt (start c .args .h)
 unfolding placesOf
 endpoints-at c = ap (λ (p : Places). p .endpoints) (places c)
 
-links-at : (c : tie.After-find-places) → c .find-places .result .links ≡ linksAt edition1 (start c .args .h)
+links-at : (c : tie.After-find-places) → c .find-places .result .links ≡ linksAt (start c .args .h)
 unfolding placesOf
 links-at c = ap (λ (p : Places). p .links) (places c)
 
-services-at : (c : tie.After-find-places) → c .find-places .result .«service_links» ≡ serviceLinksAt edition1 (start c .args .h)
+services-at : (c : tie.After-find-places) → c .find-places .result .«service_links» ≡ serviceLinksAt (start c .args .h)
 unfolding placesOf
 services-at c = ap (λ (p : Places). p .«service_links») (places c)
 
-end-at : (c : tie.After-find-places) → c .find-places .result .end ≡ endAt edition1 (start c .args .h)
+end-at : (c : tie.After-find-places) → c .find-places .result .end ≡ endAt (start c .args .h)
 unfolding placesOf
 end-at c = ap (λ (p : Places). p .end) (places c)
 
 -- ---- each list stands behind the one before, between the layout's places
 
 slots : (c : tie.After-push-slots) → let f = found (headed c) in let h = start f .args .h in
-    Follows (headed c .put-header .last .0) (slotsAt edition1) 0 (slots-of edition1 (pictureFrom (lists f))) (c .push-slots .last .0) (endpointsAt edition1 h) (c .push-slots .result)
+    Follows (headed c .put-header .last .0) (slotsAt edition1) 0 (slots-of edition1 (pictureFrom (lists f))) (c .push-slots .last .0) (endpointsAt h) (c .push-slots .result)
 unfolding under handed pictureFrom slotsAt headerWidths sum
 slots c = follows-at (c .push-slots .ensures) refl (slots-to (ready (found (headed c))))
 
 endpoints : (c : tie.After-push-endpoints) → let s = slotted c in let f = found (headed s) in let h = start f .args .h in
-    Follows (s .push-slots .last .0) (endpointsAt edition1 h) (s .push-slots .result) (endpoints-of edition1 (pictureFrom (lists f))) (c .push-endpoints .last .0) (linksAt edition1 h)
+    Follows (s .push-slots .last .0) (endpointsAt h) (s .push-slots .result) (endpoints-of edition1 (pictureFrom (lists f))) (c .push-endpoints .last .0) (linksAt h)
     (c .push-endpoints .result)
 unfolding under handed pictureFrom
 endpoints c =
@@ -89,7 +89,7 @@ endpoints c =
     follows-at (c .push-endpoints .ensures) (endpoints-at f) (ap (λ (n : ℕ). n + length (start f .args .weights .now) * sum endpointWidths) (endpoints-at f) ∙ endpoints-to (ready f))
 
 links : (c : tie.After-push-links) → let e = ended c in let f = found (headed (slotted e)) in let h = start f .args .h in
-    Follows (e .push-endpoints .last .0) (linksAt edition1 h) (e .push-endpoints .result) (links-of edition1 (pictureFrom (lists f))) (c .push-links .last .0) (serviceLinksAt edition1 h)
+    Follows (e .push-endpoints .last .0) (linksAt h) (e .push-endpoints .result) (links-of edition1 (pictureFrom (lists f))) (c .push-links .last .0) (serviceLinksAt h)
     (c .push-links .result)
 unfolding under handed pictureFrom linkWidths sum
 links c =
@@ -97,7 +97,7 @@ links c =
     follows-at (c .push-links .ensures) (links-at f) (ap (λ (n : ℕ). n + length (start f .args .links .now) * sum (linkWidths edition1)) (links-at f) ∙ links-to (ready f))
 
 services : (c : tie.After-push-links2) → let k = linked c in let f = found (headed (slotted (ended k))) in let h = start f .args .h in
-    Follows (k .push-links .last .0) (serviceLinksAt edition1 h) (k .push-links .result) (services-of edition1 (pictureFrom (lists f))) (c .push-links2 .last .0) (endAt edition1 h)
+    Follows (k .push-links .last .0) (serviceLinksAt h) (k .push-links .result) (services-of edition1 (pictureFrom (lists f))) (c .push-links2 .last .0) (endAt h)
     (c .push-links2 .result)
 unfolding under handed pictureFrom serviceLinkWidths sum
 services c =
@@ -106,7 +106,7 @@ services c =
 
 -- the header and the four lists stand in the buffer
 put-all : (c : tie.After-push-links2) → let f = found (headed (slotted (ended (linked c)))) in
-    Put (start f .args .buf .now) 0 (pictureFields edition1 (pictureFrom (lists f))) (flushed (c .push-links2 .last .0) (endAt edition1 (start f .args .h)) (c .push-links2 .result))
+    Put (start f .args .buf .now) 0 (pictureFields edition1 (pictureFrom (lists f))) (flushed (c .push-links2 .last .0) (endAt (start f .args .h)) (c .push-links2 .result))
 put-all c =
     let k = linked c in
     let e = ended k in
