@@ -15,12 +15,14 @@ use lib.ListN.{length, getD, take}
 use Rattle.bits.specs.Bits.{bitAt, fieldAt}
 use Rattle.bits.proofs.Reading.{fieldAt-lt}
 use Rattle.lists.specs.Lists.{range, item, sum}
+use Rattle.picture.specs.declared.Edition.{Edition}
 use Rattle.picture.specs.declared.Header.{Header}
-use Rattle.picture.specs.Layout.{edition1, headerWidths, slotWidths, endpointWidths, linkWidths, serviceLinkWidths, fieldIn, slotsAt, endpointsAt, linksAt, serviceLinksAt, endAt}
+use Rattle.picture.specs.Layout.{editionFor, editionBits, editionNumber, editionOf, headerWidths, slotWidths, endpointWidths, linkWidths, serviceLinkWidths, fieldIn, slotsAt, endpointsAt, linksAt, serviceLinksAt, endAt}
 use Rattle.picture.specs.Picture.{Picture, Slot, headerIn, headerOf, slotAt, endpointAt, linkAt, rows, pictureWith, pictureOf, slotOf}
 use Rattle.picture.specs.Faults.{pictureFault}
 use Rattle.picture.proofs.Kept.{Kept}
 use Rattle.lists.proofs.Ranges.{map-range-same}
+use Rattle.picture.proofs.Fronts.{field-within}
 use Rattle.picture.proofs.Starts.{field-first, field-second, row-at, rows-same, rounded}
 use Rattle.picture.proofs.Accepted.{accepted-kept, kept-accepted}
 use Rattle.network.specs.Words.{slotCount, blockCount, inBlock}
@@ -37,15 +39,18 @@ rows-from : {A : Type 0} (f g : ℕ → A) (q w k : ℕ) → ((x : ℕ) → q �
 rows-from f g q w k h = rows-same f g q w k (λ i s. h _ (omega arith))
 
 -- the states of two slots do not meet
-states-apart : (i j : ℕ) → i < j → stateAt edition1 i + 2 ≤ stateAt edition1 j
+states-apart : (e : Edition) (i j : ℕ) → i < j → stateAt e i + 2 ≤ stateAt e j
 unfolding stateAt slotWidths sum
-states-apart i j l = omega arith
+states-apart e i j l = omega arith
 
 -- ---- the bytes
 
 module _ (a : Act) (bs : List ℕ) (b : ℕ) (ok : pictureFault bs ≡ 0) (there : b < blockCount (pictureOf bs)) where
   abbrev h : Header
   h = headerOf bs
+
+  abbrev e : Edition
+  e = headerOf bs .edition
 
   abbrev p : Picture
   p = pictureOf bs
@@ -63,26 +68,26 @@ module _ (a : Act) (bs : List ℕ) (b : ℕ) (ok : pictureFault bs ≡ 0) (there
   unfolding pictureOf pictureWith blockCount
   fits = block-fits (h .slots) size b (rw (← slots-counted bs) there)
 
-  bytes : done ≡ putStates edition1 states bs (range (suc (b * size)) size)
-  unfolding doneBytes blockSlots pictureOf pictureWith
-  bytes = ap (λ (i : ℕ). putStates edition1 states bs (range i size)) (add-one (b * size))
+  bytes : done ≡ putStates e states bs (range (suc (b * size)) size)
+  unfolding doneBytes blockSlots headerOf headerIn pictureOf pictureWith
+  bytes = ap (λ (i : ℕ). putStates e states bs (range i size)) (add-one (b * size))
 
   -- the states lie inside the bytes
-  room : stateAt edition1 (b * size + size) ≤ length bs * 8
+  room : stateAt e (b * size + size) ≤ length bs * 8
   unfolding stateAt endAt serviceLinksAt linksAt endpointsAt slotWidths sum
   room = omega (arith, fits, rounded h .room, accepted-kept bs ok .long)
 
   pub acted-length : length (doneBytes a bs b) ≡ length bs
-  acted-length = ap (λ (l : List ℕ). length l) bytes ∙ length-putStates edition1 states bs (range (suc (b * size)) size)
+  acted-length = ap (λ (l : List ℕ). length l) bytes ∙ length-putStates e states bs (range (suc (b * size)) size)
 
   -- every bit that is not one of the two state bits of a slot of the block is as it was
-  pub acted-bits : (m : ℕ) → ¬ StateBit edition1 (pictureOf bs) b m → bitAt (doneBytes a bs b) m ≡ bitAt bs m
-  acted-bits m n = rw bytes (bit-beside edition1 states bs m (b * size) size room (λ j l s. beside j l s (decLt m (stateAt edition1 j)) (decLt m (stateAt edition1 j + 2))))
+  pub acted-bits : (m : ℕ) → ¬ StateBit (headerOf bs .edition) (pictureOf bs) b m → bitAt (doneBytes a bs b) m ≡ bitAt bs m
+  acted-bits m n = rw bytes (bit-beside e states bs m (b * size) size room (λ j l s. beside j l s (decLt m (stateAt e j)) (decLt m (stateAt e j + 2))))
     where
       inside : (j : ℕ) → b * size ≤ j → j < b * size + size → T (inBlock (pictureOf bs) b (suc j))
       inside j l s = unfold pictureOf pictureWith in block-in p b (suc j) (omega arith) s
 
-      beside : (j : ℕ) → b * size ≤ j → j < b * size + size → Dec (m < stateAt edition1 j) → Dec (m < stateAt edition1 j + 2) → (m < stateAt edition1 j) ⊎ (stateAt edition1 j + 2 ≤ m)
+      beside : (j : ℕ) → b * size ≤ j → j < b * size + size → Dec (m < stateAt e j) → Dec (m < stateAt e j + 2) → (m < stateAt e j) ⊎ (stateAt e j + 2 ≤ m)
       beside j l s (yes x) y = inl x
       beside j l s (no x) (yes y) = absurd (n (record { before = j; inside = inside j l s; from = omega arith; below = y }))
       beside j l s (no x) (no y) = inr (omega arith)
@@ -90,15 +95,15 @@ module _ (a : Act) (bs : List ℕ) (b : ℕ) (ok : pictureFault bs ≡ 0) (there
   -- ---- fields
 
   -- a field that starts behind the slots or ends before them
-  apart : (q u : ℕ) → (q + u ≤ slotsAt edition1) ⊎ (endpointsAt h ≤ q) → fieldAt done q u ≡ fieldAt bs q u
+  apart : (q u : ℕ) → (q + u ≤ slotsAt e) ⊎ (endpointsAt h ≤ q) → fieldAt done q u ≡ fieldAt bs q u
   unfolding stateAt endpointsAt slotWidths sum
-  apart q u o = rw bytes (field-beside edition1 states bs q u (b * size) size room (λ j l s. place o j s))
+  apart q u o = rw bytes (field-beside e states bs q u (b * size) size room (λ j l s. place o j s))
     where
-      place : (q + u ≤ slotsAt edition1) ⊎ (endpointsAt h ≤ q) → (j : ℕ) → j < b * size + size → (q + u ≤ stateAt edition1 j) ⊎ (stateAt edition1 j + 2 ≤ q)
+      place : (q + u ≤ slotsAt e) ⊎ (endpointsAt h ≤ q) → (j : ℕ) → j < b * size + size → (q + u ≤ stateAt e j) ⊎ (stateAt e j + 2 ≤ q)
       place (inl x) j s = inl (omega arith)
       place (inr x) j s = inr (omega (arith, fits))
 
-  in-header : (q u : ℕ) → q + u ≤ slotsAt edition1 → fieldAt done q u ≡ fieldAt bs q u
+  in-header : (q u : ℕ) → q + u ≤ slotsAt e → fieldAt done q u ≡ fieldAt bs q u
   in-header q u l = apart q u (inl l)
 
   behind : (ws : List ℕ) (q k : ℕ) → endpointsAt h ≤ q → fieldIn done ws q k ≡ fieldIn bs ws q k
@@ -107,86 +112,85 @@ module _ (a : Act) (bs : List ℕ) (b : ℕ) (ok : pictureFault bs ≡ 0) (there
 
   bit-behind : (m : ℕ) → endpointsAt h ≤ m → bitAt done m ≡ bitAt bs m
   unfolding stateAt endpointsAt slotWidths sum
-  bit-behind m l = rw bytes (bit-beside edition1 states bs m (b * size) size room (λ j i s. inr (omega (arith, fits))))
+  bit-behind m l = rw bytes (bit-beside e states bs m (b * size) size room (λ j i s. inr (omega (arith, fits))))
 
-  edition-same : fieldIn done (headerWidths edition1) 0 0 ≡ fieldIn bs (headerWidths edition1) 0 0
-  unfolding fieldIn headerWidths slotsAt sum
-  edition-same = in-header 0 4 (omega arith)
+  number-same : editionNumber done ≡ editionNumber bs
+  unfolding editionNumber slotsAt headerWidths sum
+  number-same = in-header 0 editionBits (omega arith)
+
+  edition-same : editionOf done ≡ editionOf bs
+  edition-same = ap editionFor number-same
 
   pub acted-header : headerOf (doneBytes a bs b) ≡ headerOf bs
-  unfolding headerOf headerIn fieldIn headerWidths slotsAt sum
-  acted-header = λ i.
-      record {
-        «block_size» = in-header 4 4 (omega arith) i;
-        slots = in-header 8 8 (omega arith) i;
-        «near_limit» = in-header 16 8 (omega arith) i;
-        endpoints = in-header 24 8 (omega arith) i;
-        links = in-header 32 12 (omega arith) i;
-        «service_links» = in-header 44 12 (omega arith) i;
-      }
+  unfolding headerOf headerIn fieldIn slotsAt
+  acted-header =
+      let ws = headerWidths (editionOf bs) in
+      let field : (k : ℕ) → fieldIn done ws 0 k ≡ fieldIn bs ws 0 k = λ k. in-header (0 + sum (take k ws)) (getD ws k 0) (omega (arith, field-within ws k)) in
+      ap (λ (x : Edition). headerIn x done) edition-same
+      ∙ (λ i. record { edition = editionOf bs; «block_size» = field 1 i; slots = field 2 i; «near_limit» = field 3 i; endpoints = field 4 i; links = field 5 i; «service_links» = field 6 i })
 
   -- ---- slots
 
-  slot-at : (i : ℕ) → i < h .slots → slotOf p (suc i) ≡ slotAt bs (stateAt edition1 i)
+  slot-at : (i : ℕ) → i < h .slots → slotOf p (suc i) ≡ slotAt bs (stateAt e i)
   unfolding slotOf item pictureOf pictureWith stateAt
-  slot-at i l = row-at (slotAt bs) _ (slotsAt edition1) (sum slotWidths) (h .slots) i l
+  slot-at i l = row-at (slotAt bs) _ (slotsAt e) (sum slotWidths) (h .slots) i l
 
-  state-at : (i : ℕ) → i < h .slots → slotOf p (suc i) .state ≡ fieldAt bs (stateAt edition1 i) 2
+  state-at : (i : ℕ) → i < h .slots → slotOf p (suc i) .state ≡ fieldAt bs (stateAt e i) 2
   unfolding slotAt slotWidths
-  state-at i l = ap (λ (s : Slot). s .state) (slot-at i l) ∙ field-first bs 2 (1 ∷ []) (stateAt edition1 i)
+  state-at i l = ap (λ (s : Slot). s .state) (slot-at i l) ∙ field-first bs 2 (1 ∷ []) (stateAt e i)
 
-  near-at : (i : ℕ) → i < h .slots → slotOf p (suc i) .near ≡ eqb (fieldAt bs (stateAt edition1 i + 2) 1) 1
+  near-at : (i : ℕ) → i < h .slots → slotOf p (suc i) .near ≡ eqb (fieldAt bs (stateAt e i + 2) 1) 1
   unfolding slotAt slotWidths
-  near-at i l = ap (λ (s : Slot). s .near) (slot-at i l) ∙ ap (λ (x : ℕ). eqb x 1) (field-second bs 2 1 [] (stateAt edition1 i))
+  near-at i l = ap (λ (s : Slot). s .near) (slot-at i l) ∙ ap (λ (x : ℕ). eqb x 1) (field-second bs 2 1 [] (stateAt e i))
 
-  state-after : (i : ℕ) → i < h .slots → fieldAt done (stateAt edition1 i) 2 ≡ slotAfter a p b (suc i) .state
+  state-after : (i : ℕ) → i < h .slots → fieldAt done (stateAt e i) 2 ≡ slotAfter a p b (suc i) .state
   unfolding slotAfter inBlock pictureOf pictureWith
   state-after i l = rw bytes (go (leb (b * size + 1) (suc i)) refl (leb (suc i) (b * size + size)) refl)
     where
       new : List ℕ
-      new = putStates edition1 states bs (range (suc (b * size)) size)
+      new = putStates e states bs (range (suc (b * size)) size)
 
       s : ℕ
       s = slotOf p (suc i) .state
 
       small : after a s < 4
-      small = after-small a s (lit< tt) (rw (state-at i l) (fieldAt-lt bs (stateAt edition1 i) 2))
+      small = after-small a s (lit< tt) (rw (state-at i l) (fieldAt-lt bs (stateAt e i) 2))
 
-      keep : (i < b * size) ⊎ (b * size + size ≤ i) → fieldAt new (stateAt edition1 i) 2 ≡ s
-      keep o = field-beside edition1 states bs (stateAt edition1 i) 2 (b * size) size room (λ j m t. beside o j m t) ∙ sym (state-at i l)
+      keep : (i < b * size) ⊎ (b * size + size ≤ i) → fieldAt new (stateAt e i) 2 ≡ s
+      keep o = field-beside e states bs (stateAt e i) 2 (b * size) size room (λ j m t. beside o j m t) ∙ sym (state-at i l)
         where
-          beside : (i < b * size) ⊎ (b * size + size ≤ i) → (j : ℕ) → b * size ≤ j → j < b * size + size → (stateAt edition1 i + 2 ≤ stateAt edition1 j) ⊎ (stateAt edition1 j + 2 ≤ stateAt edition1 i)
-          beside (inl x) j m t = inl (states-apart i j (omega arith))
-          beside (inr x) j m t = inr (states-apart j i (omega arith))
+          beside : (i < b * size) ⊎ (b * size + size ≤ i) → (j : ℕ) → b * size ≤ j → j < b * size + size → (stateAt e i + 2 ≤ stateAt e j) ⊎ (stateAt e j + 2 ≤ stateAt e i)
+          beside (inl x) j m t = inl (states-apart e i j (omega arith))
+          beside (inr x) j m t = inr (states-apart e j i (omega arith))
 
-      go : (x : Bool) → leb (b * size + 1) (suc i) ≡ x → (y : Bool) → leb (suc i) (b * size + size) ≡ y → fieldAt new (stateAt edition1 i) 2 ≡ cond (x && y) (after a s) s
-      go true ex true ey = field-state edition1 states bs (b * size) size i room (omega (arith, leb-true (b * size + 1) (suc i) ex)) (omega (arith, leb-true (suc i) (b * size + size) ey)) ∙ mod-eq-of-lt small
+      go : (x : Bool) → leb (b * size + 1) (suc i) ≡ x → (y : Bool) → leb (suc i) (b * size + size) ≡ y → fieldAt new (stateAt e i) 2 ≡ cond (x && y) (after a s) s
+      go true ex true ey = field-state e states bs (b * size) size i room (omega (arith, leb-true (b * size + 1) (suc i) ex)) (omega (arith, leb-true (suc i) (b * size + size) ey)) ∙ mod-eq-of-lt small
       go true ex false ey = keep (inr (omega (arith, leb-false (suc i) (b * size + size) ey)))
       go false ex y ey = keep (inl (omega (arith, leb-false (b * size + 1) (suc i) ex)))
 
-  near-after : (i : ℕ) → fieldAt done (stateAt edition1 i + 2) 1 ≡ fieldAt bs (stateAt edition1 i + 2) 1
+  near-after : (i : ℕ) → fieldAt done (stateAt e i + 2) 1 ≡ fieldAt bs (stateAt e i + 2) 1
   unfolding stateAt slotWidths sum
-  near-after i = rw bytes (field-beside edition1 states bs (stateAt edition1 i + 2) 1 (b * size) size room (λ j l t. beside j (decLt i j)))
+  near-after i = rw bytes (field-beside e states bs (stateAt e i + 2) 1 (b * size) size room (λ j l t. beside j (decLt i j)))
     where
-      beside : (j : ℕ) → Dec (i < j) → (stateAt edition1 i + 2 + 1 ≤ stateAt edition1 j) ⊎ (stateAt edition1 j + 2 ≤ stateAt edition1 i + 2)
+      beside : (j : ℕ) → Dec (i < j) → (stateAt e i + 2 + 1 ≤ stateAt e j) ⊎ (stateAt e j + 2 ≤ stateAt e i + 2)
       beside j (yes x) = inl (omega arith)
       beside j (no x) = inr (omega arith)
 
-  slot-after : (i : ℕ) → i < h .slots → slotAt done (stateAt edition1 i) ≡ slotAfter a p b (suc i)
+  slot-after : (i : ℕ) → i < h .slots → slotAt done (stateAt e i) ≡ slotAfter a p b (suc i)
   unfolding slotAt slotAfter slotWidths
   slot-after i l = λ j. record { state = state j; near = near j }
     where
-      state : fieldIn done (2 ∷ 1 ∷ []) (stateAt edition1 i) 0 ≡ slotAfter a p b (suc i) .state
-      state = field-first done 2 (1 ∷ []) (stateAt edition1 i) ∙ state-after i l
+      state : fieldIn done (2 ∷ 1 ∷ []) (stateAt e i) 0 ≡ slotAfter a p b (suc i) .state
+      state = field-first done 2 (1 ∷ []) (stateAt e i) ∙ state-after i l
 
-      near : eqb (fieldIn done (2 ∷ 1 ∷ []) (stateAt edition1 i) 1) 1 ≡ slotOf p (suc i) .near
-      near = ap (λ (x : ℕ). eqb x 1) (field-second done 2 1 [] (stateAt edition1 i) ∙ near-after i) ∙ sym (near-at i l)
+      near : eqb (fieldIn done (2 ∷ 1 ∷ []) (stateAt e i) 1) 1 ≡ slotOf p (suc i) .near
+      near = ap (λ (x : ℕ). eqb x 1) (field-second done 2 1 [] (stateAt e i) ∙ near-after i) ∙ sym (near-at i l)
 
-  slots-after : rows (slotAt done) (slotsAt edition1) (sum slotWidths) (h .slots) ≡ map (slotAfter a p b) (range 1 (slotCount p))
+  slots-after : rows (slotAt done) (slotsAt e) (sum slotWidths) (h .slots) ≡ map (slotAfter a p b) (range 1 (slotCount p))
   unfolding rows stateAt
   slots-after =
-      map-range-same (λ i. slotAt done (slotsAt edition1 + i * sum slotWidths)) (slotAfter a p b) 0 1 (h .slots)
-      (λ i l. ap (λ (j : ℕ). slotAt done (slotsAt edition1 + j * sum slotWidths)) (zero-add i) ∙ slot-after i l ∙ ap (slotAfter a p b) (sym (one-add i)))
+      map-range-same (λ i. slotAt done (slotsAt e + i * sum slotWidths)) (slotAfter a p b) 0 1 (h .slots)
+      (λ i l. ap (λ (j : ℕ). slotAt done (slotsAt e + j * sum slotWidths)) (zero-add i) ∙ slot-after i l ∙ ap (slotAfter a p b) (sym (one-add i)))
       ∙ ap (λ (k : ℕ). map (slotAfter a p b) (range 1 k)) (sym (slots-counted bs))
 
   -- ---- the parts behind the slots
@@ -222,10 +226,10 @@ module _ (a : Act) (bs : List ℕ) (b : ℕ) (ok : pictureFault bs ≡ 0) (there
         nearLimit = h .«near_limit»;
         slots = slots-after i;
         endpoints = rows-from (endpointAt done) (endpointAt bs) (endpointsAt h) (sum endpointWidths) (h .endpoints) endpoint-same i;
-        links = rows-from (linkAt (linkWidths edition1) done) (linkAt (linkWidths edition1) bs) (linksAt h) (sum (linkWidths edition1)) (h .links)
-            (λ x l. link-same (linkWidths edition1) x (le-trans links-behind l)) i;
-        serviceLinks = rows-from (linkAt (serviceLinkWidths edition1) done) (linkAt (serviceLinkWidths edition1) bs) (serviceLinksAt h) (sum (serviceLinkWidths edition1)) (h .«service_links»)
-            (λ x l. link-same (serviceLinkWidths edition1) x (le-trans services-behind l)) i;
+        links = rows-from (linkAt (linkWidths e) done) (linkAt (linkWidths e) bs) (linksAt h) (sum (linkWidths e)) (h .links)
+            (λ x l. link-same (linkWidths e) x (le-trans links-behind l)) i;
+        serviceLinks = rows-from (linkAt (serviceLinkWidths e) done) (linkAt (serviceLinkWidths e) bs) (serviceLinksAt h) (sum (serviceLinkWidths e)) (h .«service_links»)
+            (λ x l. link-same (serviceLinkWidths e) x (le-trans services-behind l)) i;
       })
 
   -- and are accepted
@@ -234,7 +238,8 @@ module _ (a : Act) (bs : List ℕ) (b : ℕ) (ok : pictureFault bs ≡ 0) (there
       kept-accepted done
       (record {
         header = rw acted-length (k .header);
-        edition = edition-same ∙ k .edition;
+        edition = number-same ∙ k .edition ∙ ap (λ (x : Edition). x .number) (sym edition-same);
+        whole = rw (edition-same, acted-length) (k .whole);
         sizes = rw acted-header (k .sizes);
         counts = rw acted-header (k .counts);
         long = rw (acted-header, acted-length) (k .long);

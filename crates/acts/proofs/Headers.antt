@@ -11,11 +11,11 @@ use lib.Dec.{eqb, leb}
 use lib.ListN.{length}
 use Rattle.lists.specs.Lists.{range, any}
 use Rattle.picture.specs.declared.Header.{Header}
-use Rattle.picture.specs.Layout.{edition1, sizeOf}
+use Rattle.picture.specs.Layout.{sizeOf}
 use Rattle.picture.specs.Picture.{Picture, pictureOf, pictureWith, slotOf}
 use Rattle.picture.specs.Inner.{Read}
 use Rattle.picture.proofs.Accepted.{accepted-kept}
-use Rattle.picture.proofs.Facts.{read-picture, read-sizes}
+use Rattle.picture.proofs.Facts.{read-picture, read-slots-most}
 use Rattle.network.specs.Words.{slotCount, blockCount, inBlock, isHeld}
 use Rattle.network.specs.Tests.{isNearHeld}
 use Rattle.network.proofs.Blocks.{block-fits, read-block-size, read-slots, read-blocks}
@@ -35,7 +35,7 @@ changed a p v = not (eqb (after a (slotOf p v .state)) (slotOf p v .state))
 
 module _ (bs : List ℕ) (h : Header) (r : Read bs h) where
   pub read-within : (b : ℕ) → b < blockCount (pictureOf bs) → Within h b
-  read-within b l = record { last = block-fits (h .slots) (h .«block_size») b (rw (read-blocks bs h r) l); most = read-sizes bs h r .slots-most }
+  read-within b l = record { last = block-fits (h .slots) (h .«block_size») b (rw (read-blocks bs h r) l); most = read-slots-most bs h r }
 
   -- a scan by the header passes all slots of the picture
   pub slots-all : (k : ℕ) → k ≤ h .slots → h .slots ≤ k → slotCount (pictureOf bs) ≡ k

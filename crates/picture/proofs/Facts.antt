@@ -4,7 +4,7 @@ use mathlib.Core.List.{List}
 use Prim.Native.Nat.{ℕ, _≤_}
 use lib.ListN.{length}
 use Rattle.picture.specs.declared.Header.{Header}
-use Rattle.picture.specs.Layout.{edition2}
+use Rattle.picture.specs.Layout.{edition2, editionOf}
 use Rattle.picture.specs.Picture.{Picture, headerIn, headerOf, pictureOf, pictureWith}
 use Rattle.picture.specs.Rules.{Sizes, Counts, Links}
 use Rattle.picture.specs.Inner.{Read, Known, Limited}
@@ -19,10 +19,13 @@ module _ (bs : List ℕ) (h : Header) (r : Read bs h) where
   unfolding pictureOf
   read-picture = ap (λ (k : Header). pictureWith k bs) (r .header)
 
-  -- its edition is one of the two
-  pub read-known : Known (h .edition)
+  -- its edition is the bytes' own, one of the two
+  pub read-edition : h .edition ≡ editionOf bs
   unfolding headerOf headerIn
-  read-known = subst (λ (k : Header). Known (k .edition)) (sym (r .header)) (known-for _)
+  read-edition = ap (λ (k : Header). k .edition) (r .header)
+
+  pub read-known : Known (h .edition)
+  read-known = subst Known (sym read-edition) (known-for _)
 
   -- its numbers keep their limits
   pub read-sizes : Sizes h

@@ -17,7 +17,7 @@ use Rattle.picture.specs.Picture.{Slot, headerIn, slotAt, linkAt, rows}
 use Rattle.picture.proofs.Starts.{rows-same}
 
 -- field j ends within the fields
-field-within : (ws : List ℕ) (j : ℕ) → sum (take j ws) + getD ws j 0 ≤ sum ws
+pub field-within : (ws : List ℕ) (j : ℕ) → sum (take j ws) + getD ws j 0 ≤ sum ws
 unfolding sum
 field-within [] zero = omega arith
 field-within [] (suc j) = omega arith

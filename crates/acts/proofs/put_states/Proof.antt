@@ -8,7 +8,7 @@ use lib.ListN.{length}
 use Rattle.bits.specs.Bits.{putField}
 use Rattle.lists.specs.Lists.{range, sum}
 use Rattle.picture.specs.declared.Header.{Header}
-use Rattle.picture.specs.Layout.{edition1, slotWidths, slotsAt}
+use Rattle.picture.specs.Layout.{slotWidths, slotsAt}
 use Rattle.picture.proofs.Facts.{read-limited}
 use Rattle.acts.specs.declared.Act.{Act}
 use Rattle.acts.specs.Acts.{after, putStates}
@@ -21,7 +21,7 @@ use Rattle.acts.proofs.put_states.Tie as tie
 -- the slots of the block above its first k are written
 record Loop (old : List ℕ) (h : Header) (a : Act) (b : ℕ) (s : List ℕ) (k : ℕ) : Type 0 where
   pub within : k ≤ h .«block_size»
-  pub same : s ≡ putStates edition1 (state-after a old) old (range (suc (b * h .«block_size» + k)) (h .«block_size» - k))
+  pub same : s ≡ putStates (h .edition) (state-after a old) old (range (suc (b * h .«block_size» + k)) (h .«block_size» - k))
 
 abbrev Inv-loop : tie.InvT-loop
 Inv-loop s₀ h a b size start k₀ s k = Loop s₀ h a b s k
@@ -42,7 +42,7 @@ block c = read-within _ _ (c .before .pre .0) _ (c .before .pre .1)
 
 -- the slice keeps its length
 kept : (c : tie.At-loop Inv-loop μ-loop) → length (c .loop .s) ≡ length (entry c .args .s .now)
-kept c = ap length (c .loop .inv .same) ∙ length-putStates edition1 _ (entry c .args .s .now) _
+kept c = ap length (c .loop .inv .same) ∙ length-putStates (entry c .args .h .edition) _ (entry c .args .s .now) _
 
 mul-start : tie.Need-mul-start Inv-loop μ-loop
 mul-start c = omega (arith, block c)
@@ -79,7 +79,7 @@ loop-again c =
     let l = turn w .loop in
     let e = entry (turn w) in
     let a = e .args in
-    let at = slotsAt edition1 + (a .b * a .h .«block_size» + l .k - 1) * sum slotWidths in
+    let at = slotsAt (a .h .edition) + (a .b * a .h .«block_size» + l .k - 1) * sum slotWidths in
     let state = w .after .ensures ∙ ap (after (a .a)) (w .before .before .slot-state .ensures) in
     let put = c .before .before .put-state .ensures ∙ ap (putField (l .s) at 2) state in
     record {
