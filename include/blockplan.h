@@ -50,11 +50,11 @@ extern "C" {
  * n is a multiple of the block size. A buffer of BLOCKPLAN_PICTURE_MAX bytes is long enough for every picture. The limits:
  */
 #define BLOCKPLAN_BLOCK_SIZE_MAX 15
-#define BLOCKPLAN_SLOTS_MAX 240
+#define BLOCKPLAN_SLOTS_MAX 320
 #define BLOCKPLAN_BLOCKS_MAX 60
 #define BLOCKPLAN_ENDPOINTS_MAX 200
 #define BLOCKPLAN_LINKS_MAX 2000 /* links, and as many service links */
-#define BLOCKPLAN_PICTURE_MAX 8522
+#define BLOCKPLAN_PICTURE_MAX 11553
 
 /*
  * EVIDENCE, all of it whole bytes but for the first:
@@ -66,7 +66,7 @@ extern "C" {
  * For "none", block and loss are 0. A buffer of BLOCKPLAN_EVIDENCE_MAX bytes is long enough for every picture.
  */
 #define BLOCKPLAN_EVIDENCE_BYTES(slots, candidates) (9 + 2 * (slots) + (candidates) * (5 + 2 * (slots)))
-#define BLOCKPLAN_EVIDENCE_MAX 29589
+#define BLOCKPLAN_EVIDENCE_MAX 55209
 
 /* The fields of the head, from a pointer to the first byte of evidence that choose wrote or check passed: there are nine bytes at least. */
 #define BLOCKPLAN_VERDICT(evidence) ((unsigned)(evidence)[0] & 15u)

@@ -1,4 +1,5 @@
-//! Times of the archive and of the peer in one run, their growth, and the archive's peak stack.
+//! Times of the archive and of the peer in one run, their growth, and the archive's peak stack, for
+//! pictures of both editions.
 //!
 //! `bench [REPETITIONS]`: of how many measurements each time is the median.
 //! `bench stack`: the peak stack alone; ends with status 1 where it is over the header's limit.
@@ -11,9 +12,9 @@ use std::process::exit;
 use std::time::{Duration, Instant};
 
 use peer::archive;
-use peer::choice::evidence_bytes;
+use peer::edition::{FIRST, MAX_EVIDENCE_BYTES, MAX_PICTURE_BYTES, SECOND};
 use peer::networks::{dense_held, hold_all, long_chain, Size};
-use peer::picture::{Picture, State, MAX_BLOCKS, MAX_SLOTS};
+use peer::picture::{Picture, State};
 use peer::random::Random;
 use peer::{lists_of, pack, samples, Lists};
 
@@ -45,7 +46,7 @@ impl Case {
         let lists = lists_of(picture);
         let acts = acts_on(picture);
         let picture = pack(picture);
-        let mut evidence = vec![0; evidence_bytes(MAX_SLOTS, MAX_BLOCKS)];
+        let mut evidence = vec![0; MAX_EVIDENCE_BYTES];
         let length = peer::choose(&picture, &mut evidence).expect("the cases are accepted");
         evidence.truncate(length);
         let case = Case { picture, evidence, lists, acts };
@@ -139,7 +140,7 @@ impl Act {
 /// Evict, reload and free of the last block, which on a chain is the farthest.
 fn acts_on(picture: &Picture) -> [Act; 3] {
     let mut open = picture.clone();
-    open.near_limit = 255;
+    open.near_limit = open.edition.max_near_limit();
     open.endpoints.iter_mut().for_each(|endpoint| endpoint.protected = false);
     hold_all(&mut open);
     let last = open.block_count() - 1;
@@ -214,17 +215,25 @@ fn median(mut times: Vec<f64>) -> f64 {
     }
 }
 
-fn dense(slots: usize, block_size: usize, endpoints: usize, links: usize, serving: usize) -> Picture {
-    let size = Size { block_size, slots, endpoints, links, serving };
+fn dense(size: Size) -> Picture {
     dense_held(&mut Random::new(SEED), size)
+}
+
+/// A size of the first edition, in which growth is measured.
+fn first(slots: usize, block_size: usize, endpoints: usize, links: usize, serving: usize) -> Size {
+    Size { edition: FIRST, block_size, slots, endpoints, links, serving }
 }
 
 fn cases() -> Vec<(&'static str, Picture)> {
     vec![
         ("case A", samples::case_a()),
-        ("middle: n 96, b 4, D 60, L S 400", dense(96, 4, 60, 400, 400)),
-        ("chain: n 240, b 4", long_chain(4, 240, 60)),
-        ("full: n 240, b 4, D 200, L S 2000", dense(240, 4, 200, 2000, 2000)),
+        ("middle: n 96, b 4, D 60, L S 400", dense(first(96, 4, 60, 400, 400))),
+        ("chain: n 240, b 4", long_chain(FIRST, 4, 240, 60)),
+        ("full: n 240, b 4, D 200, L S 2000", dense(Size::longest(FIRST, 4))),
+        ("second: case A", samples::second()),
+        ("second: chain: n 320, b 8", long_chain(SECOND, 8, 320, 60)),
+        ("second: n 320, b 8, D 200, L S 2000", dense(Size::longest(SECOND, 8))),
+        ("second: n 300, b 5, D 200, L S 2000", dense(Size::longest(SECOND, 5))),
     ]
 }
 
@@ -264,7 +273,7 @@ fn series() -> Vec<Series> {
 
 fn print_growth(repetitions: usize) {
     println!();
-    println!("growth of the archive's times as sizes double (D 100, dense, all held, near, reached)");
+    println!("growth of the archive's times as sizes double (edition 1, D 100, dense, all held, near, reached)");
     println!(
         "{:<20}{:>6}{:>6}{:>6}{:>6}{:>14}{:>10}{:>14}{:>10}",
         "what doubles", "n", "b", "L", "S", "choose us", "growth", "check us", "growth"
@@ -272,7 +281,7 @@ fn print_growth(repetitions: usize) {
     for (name, sizes) in series() {
         let mut last = None;
         for (slots, block_size, links, serving) in sizes {
-            let case = Case::of(&dense(slots, block_size, 100, links, serving));
+            let case = Case::of(&dense(first(slots, block_size, 100, links, serving)));
             let (choose, check) = (case.choose(repetitions), case.check(repetitions));
             let choose_growth = growth(last.map(|(choose, _)| choose), choose);
             let check_growth = growth(last.map(|(_, check)| check), check);
@@ -292,11 +301,12 @@ fn growth(before: Option<Medians>, now: Medians) -> String {
     }
 }
 
+/// The calls are lent buffers that are long enough for every picture, as a terminal lends them.
 fn peaks(picture: &Picture) -> [usize; 6] {
     let case = Case::of(picture);
     let [evict, reload, free] = &case.acts;
-    let mut evidence = vec![0; case.evidence.len()];
-    let mut written = vec![0; case.picture.len()];
+    let mut evidence = vec![0; MAX_EVIDENCE_BYTES];
+    let mut written = vec![0; MAX_PICTURE_BYTES];
     [
         stack::peak(&mut || {
             archive::choose(&case.picture, &mut evidence);

@@ -24,8 +24,9 @@ mod calls {
         pub fn blockplan_reload(picture: *mut u8, picture_len: usize, block: u32) -> i32;
         pub fn blockplan_free(picture: *mut u8, picture_len: usize, block: u32) -> i32;
         pub fn blockplan_write(
+            edition: u32,
             block_size: u32,
-            near_limit: u8,
+            near_limit: u16,
             states: *const u8,
             state_count: usize,
             is_near: *const bool,
@@ -73,6 +74,7 @@ pub fn free(picture: &mut [u8], block: u32) -> i32 {
 pub fn write(lists: &Lists, picture: &mut [u8]) -> i32 {
     unsafe {
         calls::blockplan_write(
+            lists.edition,
             lists.block_size,
             lists.near_limit,
             lists.states.as_ptr(),

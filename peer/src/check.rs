@@ -2,7 +2,7 @@
 
 use std::ops::Range;
 
-use crate::choice::{evidence_bytes, section_bytes, EVIDENCE_EDITION, HEAD_BYTES, SECTION_HEAD_BYTES};
+use crate::edition::{Edition, HEAD_BYTES, SECTION_HEAD_BYTES};
 use crate::picture::{read, Picture};
 use crate::reach::{Cut, Forest, Network, NOTHING};
 use crate::refusals;
@@ -27,22 +27,23 @@ struct Section<'e> {
 
 impl<'e> Evidence<'e> {
     fn read(picture: &Picture, bytes: &'e [u8]) -> Result<Evidence<'e>, u8> {
-        let slots = picture.slots.len();
+        let (edition, slots) = (picture.edition, picture.slots.len());
         let candidates = picture.candidates();
-        if bytes.len() != evidence_bytes(slots, candidates.len()) {
+        if bytes.len() != edition.evidence_bytes(slots, candidates.len()) {
             return Err(refusals::FORM);
         }
         let (head, rest) = bytes.split_at(HEAD_BYTES);
-        let (forest, rest) = rest.split_at(2 * slots);
+        let (forest, rest) = rest.split_at(edition.forest_bytes(slots));
+        let sections = rest.chunks(edition.section_bytes(slots));
         let evidence = Evidence {
             verdict: head[0] & 15,
             block: head[1],
-            served: three_bytes(&head[3..6]),
-            loss: three_bytes(&head[6..9]),
-            forest: read_forest(forest),
-            sections: rest.chunks(section_bytes(slots)).map(Section::read).collect(),
+            served: number(&head[3..6]),
+            loss: number(&head[6..9]),
+            forest: read_forest(edition, forest),
+            sections: sections.map(|section| Section::read(edition, section)).collect(),
         };
-        let head_fits = head[0] >> 4 == EVIDENCE_EDITION
+        let head_fits = head[0] >> 4 == edition.number
             && evidence.verdict <= 1
             && usize::from(head[2]) == candidates.len();
         let sections_fit = evidence.sections.iter().all(|section| section.mark <= 1)
@@ -71,26 +72,28 @@ impl<'e> Evidence<'e> {
 }
 
 impl<'e> Section<'e> {
-    fn read(bytes: &'e [u8]) -> Section<'e> {
+    fn read(edition: Edition, bytes: &'e [u8]) -> Section<'e> {
         Section {
             block: bytes[0],
-            loss: three_bytes(&bytes[1..4]),
+            loss: number(&bytes[1..4]),
             mark: bytes[4],
-            forest: read_forest(&bytes[SECTION_HEAD_BYTES..]),
+            forest: read_forest(edition, &bytes[SECTION_HEAD_BYTES..]),
             bytes,
         }
     }
 }
 
-fn three_bytes(bytes: &[u8]) -> u32 {
+/// The high byte first.
+fn number(bytes: &[u8]) -> u32 {
     bytes.iter().fold(0, |value, byte| value << 8 | u32::from(*byte))
 }
 
-fn read_forest(bytes: &[u8]) -> Forest {
-    let mut forest = Forest::bare(bytes.len() / 2);
-    for (location, entry) in (1..).zip(bytes.chunks(2)) {
-        forest.parent[location] = entry[0];
-        forest.depth[location] = entry[1];
+fn read_forest(edition: Edition, bytes: &[u8]) -> Forest {
+    let width = edition.location_width;
+    let mut forest = Forest::bare(bytes.len() / edition.entry_bytes());
+    for (location, entry) in (1..).zip(bytes.chunks(edition.entry_bytes()).map(number)) {
+        forest.parent[location] = (entry >> width) as u16;
+        forest.depth[location] = (entry & ((1 << width) - 1)) as u16;
     }
     forest
 }
@@ -115,7 +118,7 @@ fn entry_fits(network: &Network, forest: &Forest, slot: usize, evicted: &Range<u
         // A slot of depth 0 is no parent, though its depth is the origin's.
         && forest.reaches(parent)
         && forest.depth[parent] == depth - 1
-        && network.links[parent].binary_search(&(slot as u8)).is_ok()
+        && network.links[parent].binary_search(&(slot as u16)).is_ok()
 }
 
 fn no_link_leads_on(network: &Network, forest: &Forest, from: usize, evicted: &Range<usize>) -> bool {

@@ -1,14 +1,9 @@
 //! Weighing blocks, choosing one, and writing the evidence for it.
 
+use crate::edition::Edition;
 use crate::picture::{read, Picture};
 use crate::reach::{Cut, Forest, Network, NOTHING};
 use crate::refusals;
-
-pub const EVIDENCE_EDITION: u8 = 1;
-/// Bytes before the first forest.
-pub const HEAD_BYTES: usize = 9;
-/// Bytes of a section before its forest.
-pub const SECTION_HEAD_BYTES: usize = 5;
 
 /// One candidate with its cut and the forest without it.
 pub struct Section {
@@ -17,8 +12,9 @@ pub struct Section {
     pub forest: Forest,
 }
 
-/// All that the evidence states, before the verdict.
+/// All that the evidence states, before the verdict. It is of the picture's edition.
 pub struct Plan {
+    pub edition: Edition,
     pub served: u32,
     pub forest: Forest,
     pub sections: Vec<Section>,
@@ -39,7 +35,7 @@ impl Plan {
                 Section { block, cut, forest }
             })
             .collect();
-        Plan { served: network.served_weight(&before), forest, sections }
+        Plan { edition: picture.edition, served: network.served_weight(&before), forest, sections }
     }
 
     pub fn admissible(&self) -> impl Iterator<Item = &Section> {
@@ -55,40 +51,38 @@ impl Plan {
     /// The evidence that names `chosen`, or "none".
     pub fn evidence(&self, chosen: Option<&Section>) -> Vec<u8> {
         let slots = self.forest.depth.len() - 1;
-        let mut bytes = Vec::with_capacity(evidence_bytes(slots, self.sections.len()));
+        let mut bytes = Vec::with_capacity(self.edition.evidence_bytes(slots, self.sections.len()));
         let (verdict, block, loss) = match chosen {
             Some(section) => (1, section.block, section.cut.loss),
             None => (0, 0, 0),
         };
-        bytes.extend([EVIDENCE_EDITION << 4 | verdict, block, self.sections.len() as u8]);
+        bytes.extend([self.edition.number << 4 | verdict, block, self.sections.len() as u8]);
         push_24_bits(&mut bytes, self.served);
         push_24_bits(&mut bytes, loss);
-        push_forest(&mut bytes, &self.forest);
+        push_forest(&mut bytes, self.edition, &self.forest);
         for section in &self.sections {
             bytes.push(section.block);
             push_24_bits(&mut bytes, section.cut.loss);
             bytes.push(section.cut.mark);
-            push_forest(&mut bytes, &section.forest);
+            push_forest(&mut bytes, self.edition, &section.forest);
         }
         bytes
     }
-}
-
-pub const fn evidence_bytes(slots: usize, candidates: usize) -> usize {
-    HEAD_BYTES + 2 * slots + candidates * section_bytes(slots)
-}
-
-pub const fn section_bytes(slots: usize) -> usize {
-    SECTION_HEAD_BYTES + 2 * slots
 }
 
 fn push_24_bits(bytes: &mut Vec<u8>, value: u32) {
     bytes.extend(&value.to_be_bytes()[1..]);
 }
 
-fn push_forest(bytes: &mut Vec<u8>, forest: &Forest) {
-    for (parent, depth) in forest.parent.iter().zip(&forest.depth).skip(1) {
-        bytes.extend([*parent, *depth]);
+fn push_forest(bytes: &mut Vec<u8>, edition: Edition, forest: &Forest) {
+    let start = bytes.len();
+    bytes.resize(start + edition.forest_bytes(forest.depth.len() - 1), 0);
+    let entries = bytes[start..].chunks_exact_mut(edition.entry_bytes());
+    for (entry, (parent, depth)) in entries.zip(forest.parent.iter().zip(&forest.depth).skip(1)) {
+        let value = u32::from(*parent) << edition.location_width | u32::from(*depth);
+        for (byte, shift) in entry.iter_mut().rev().zip([0, 8, 16]) {
+            *byte = (value >> shift) as u8;
+        }
     }
 }
 
@@ -103,7 +97,7 @@ pub fn weigh(picture: &[u8], block: u32) -> Result<(u32, u32, u8), u8> {
 /// Writes the evidence to the start of the lent buffer and gives its length.
 pub fn choose(picture: &[u8], evidence: &mut [u8]) -> Result<usize, u8> {
     let picture = read(picture)?;
-    let length = evidence_bytes(picture.slots.len(), picture.candidates().len());
+    let length = picture.edition.evidence_bytes(picture.slots.len(), picture.candidates().len());
     let written = evidence.get_mut(..length).ok_or(refusals::BUFFER)?;
     let plan = Plan::of(&picture);
     written.copy_from_slice(&plan.evidence(plan.least()));

@@ -1,22 +1,45 @@
 //! Faults in lists that are right, a kind at a time: small changes, which can also be made together
 //! so that their order shows. And pictures with every two numbers in their links wrong.
 
+use crate::edition::{Edition, EDITIONS, MAX_BLOCK_SIZE, SECOND};
 use crate::lists::Lists;
-use crate::picture::{Picture, MAX_BLOCK_SIZE};
+use crate::picture::Picture;
 use crate::random::Random;
 use crate::refusals;
 
 pub type Fault = fn(&mut Random, &mut Lists);
 
 /// In the order in which they are judged; the last two link by link.
-pub const FAULTS: [Fault; 7] =
-    [block_size, slot_columns, endpoint_columns, state, link_end, serving_location, serving_endpoint];
+pub const FAULTS: [Fault; 9] = [
+    edition,
+    block_size,
+    near_limit,
+    slot_columns,
+    endpoint_columns,
+    state,
+    link_end,
+    serving_location,
+    serving_endpoint,
+];
 
-/// Sizes that no picture has; most have a right one in their low bits.
+fn edition(random: &mut Random, lists: &mut Lists) {
+    lists.edition = no_such(random, lists.edition, EDITIONS.len() as u32);
+}
+
 fn block_size(random: &mut Random, lists: &mut Lists) {
-    let size = lists.block_size;
-    let beyond = *random.pick(&[1 << 4, 1 << 8, 1 << 16, 1 << 31]) | size;
-    lists.block_size = *random.pick(&[0, MAX_BLOCK_SIZE as u32 + 1, beyond, u32::MAX]);
+    lists.block_size = no_such(random, lists.block_size, MAX_BLOCK_SIZE as u32);
+}
+
+/// A number that is not from 1 to `most`; most have the right one in their low bits.
+fn no_such(random: &mut Random, right: u32, most: u32) -> u32 {
+    let beyond = *random.pick(&[1 << 4, 1 << 8, 1 << 16, 1 << 31]) | right;
+    *random.pick(&[0, most + 1, beyond, u32::MAX])
+}
+
+/// Too wide for the header of the edition, if it is one.
+fn near_limit(random: &mut Random, lists: &mut Lists) {
+    let edition = Edition::of(lists.edition).unwrap_or(SECOND);
+    lists.near_limit = beyond(random, usize::from(edition.max_near_limit()));
 }
 
 fn slot_columns(random: &mut Random, lists: &mut Lists) {
@@ -76,11 +99,17 @@ fn some_row<'l, T>(random: &mut Random, rows: &'l mut [T]) -> Option<&'l mut T> 
     rows.get_mut(*random.pick(&[0, last, any]))
 }
 
-/// A number above `limit`: the next one, ones whose low eight bits are right, and the largest.
+/// A number above `limit`: the next one, ones of which a field of 8 or 12 bits would keep a right
+/// number, and the largest. Longer lists than a picture's are refused whatever their rows say.
 fn beyond(random: &mut Random, limit: usize) -> u16 {
-    let right = random.between(0, limit.min(255)) as u16;
-    let high = (random.between(1, 255) << 8) as u16;
-    *random.pick(&[limit as u16 + 1, 256, 256 + right, high | right, u16::MAX])
+    let limit = limit.min(usize::from(SECOND.max_near_limit()));
+    let widths = EDITIONS.map(|edition| edition.location_width).into_iter();
+    let wide_enough: Vec<usize> = widths.filter(|width| limit < 1 << width).collect();
+    let width = *random.pick(&wide_enough);
+    let right = random.between(0, limit);
+    let high = random.between(1, (1 << (16 - width)) - 1) << width;
+    *random.pick(&[limit + 1, 1 << width, 1 << width | right, high | right, usize::from(u16::MAX)])
+        as u16
 }
 
 /// A picture that is right with one number in its links and serving links made wrong, or two, each
@@ -91,37 +120,30 @@ pub fn wrong_ends(picture: &Picture) -> Vec<(u8, Picture)> {
     for first in 0..count {
         for second in first..count {
             let mut picture = picture.clone();
-            let mut ends = ends(&mut picture);
-            let due = ends[first].refusal;
-            for place in [first, second] {
-                *ends[place].number = ends[place].wrong;
-            }
+            let due = spoil(&mut picture, first);
+            spoil(&mut picture, second);
             wrong.push((due, picture));
         }
     }
     wrong
 }
 
-/// A number in a link or serving link, one that would be wrong there, and what that gets.
-struct End<'p> {
-    number: &'p mut u8,
-    wrong: u8,
-    refusal: u8,
-}
-
-/// In the order of the layout.
-fn ends(picture: &mut Picture) -> Vec<End<'_>> {
-    let no_location = picture.slots.len() as u8 + 1;
+/// Makes a number in a link or serving link wrong and tells what that gets. The place counts these
+/// numbers in the order of the layout.
+fn spoil(picture: &mut Picture, place: usize) -> u8 {
+    let no_location = picture.slots.len() as u16 + 1;
     let no_endpoint = picture.endpoints.len() as u8 + 1;
-    let mut ends = Vec::new();
-    let mut add = |number, wrong, refusal| ends.push(End { number, wrong, refusal });
-    for (from, to) in &mut picture.links {
-        add(from, no_location, refusals::LINK);
-        add(to, no_location, refusals::LINK);
+    let (row, is_first) = (place / 2, place % 2 == 0);
+    if let Some((from, to)) = picture.links.get_mut(row) {
+        *(if is_first { from } else { to }) = no_location;
+        return refusals::LINK;
     }
-    for (row, (location, endpoint)) in picture.serving.iter_mut().enumerate() {
-        add(location, no_location, refusals::SERVICE_LOCATION);
-        add(endpoint, [no_endpoint, 0][row % 2], refusals::SERVICE_ENDPOINT);
+    let row = row - picture.links.len();
+    let (location, endpoint) = &mut picture.serving[row];
+    if is_first {
+        *location = no_location;
+        return refusals::SERVICE_LOCATION;
     }
-    ends
+    *endpoint = [no_endpoint, 0][row % 2];
+    refusals::SERVICE_ENDPOINT
 }

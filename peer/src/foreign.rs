@@ -66,7 +66,7 @@ fn grown(
     while !open.is_empty() {
         let place = next(random, open.len());
         let from: usize = open[place];
-        let fresh: Vec<u8> = network.links[from]
+        let fresh: Vec<u16> = network.links[from]
             .iter()
             .copied()
             .filter(|&to| !forest.reaches(usize::from(to)) && network.carries(usize::from(to), evicted))
@@ -76,7 +76,7 @@ fn grown(
             continue;
         }
         let to = usize::from(*random.pick(&fresh));
-        forest.parent[to] = from as u8;
+        forest.parent[to] = from as u16;
         forest.depth[to] = forest.depth[from] + 1;
         open.push(to);
     }
@@ -88,10 +88,10 @@ fn any_parents(random: &mut Random, network: &Network, mut forest: Forest) -> Fo
         if forest.depth[slot] == 0 {
             continue;
         }
-        let parents: Vec<u8> = (0..forest.depth.len())
+        let parents: Vec<u16> = (0..forest.depth.len())
             .filter(|&from| forest.reaches(from) && forest.depth[from] + 1 == forest.depth[slot])
-            .filter(|&from| network.links[from].contains(&(slot as u8)))
-            .map(|from| from as u8)
+            .filter(|&from| network.links[from].contains(&(slot as u16)))
+            .map(|from| from as u16)
             .collect();
         forest.parent[slot] = *random.pick(&parents);
     }

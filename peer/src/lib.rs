@@ -1,6 +1,6 @@
 //! The plain peer of the block planner: document 01 and the requests in 02, with adjacency lists and
-//! one breadth-first search a candidate. Another implementation is held against it, in results and in
-//! speed.
+//! one breadth-first search a candidate, over both editions of the layout. Another implementation is
+//! held against it, in results and in speed.
 //!
 //! Words are those of document 01, with origin for the office, endpoint for a cab and network for
 //! a farm. Refusals are numbers, see [`refusals`].
@@ -11,6 +11,7 @@ pub mod acts;
 pub mod bits;
 pub mod check;
 pub mod choice;
+pub mod edition;
 pub mod listing;
 pub mod lists;
 pub mod picture;
@@ -30,10 +31,13 @@ pub mod samples;
 pub use acts::{evict, free, reload};
 pub use check::{check, show};
 pub use choice::{choose, weigh};
+pub use edition::Edition;
 pub use listing::listing;
 pub use lists::{lists_of, write, Lists};
 pub use picture::{pack, read, Picture};
 
+#[cfg(test)]
+mod edition_tests;
 #[cfg(test)]
 mod link_tests;
 #[cfg(test)]

@@ -2,14 +2,14 @@
 //! of bytes and by the writer of lists.
 
 use crate::faults::wrong_ends;
-use crate::picture::HEADER_BYTES;
-use crate::samples::case_a;
+use crate::samples::{case_a, second};
 use crate::tests::{written, ROOM};
 use crate::{lists_of, pack, read, refusals, Picture};
 
 type Change = fn(&mut Picture);
 
-/// Case A with links and serving links changed, or its endpoints gone, and the number that is due.
+/// Case A of both editions with links and serving links changed, or its endpoints gone, and the number
+/// that is due.
 fn examples() -> Vec<(u8, Picture)> {
     let changes: [(u8, Change); 10] = [
         (refusals::SERVICE_LOCATION, |picture| picture.serving[2].0 = 5),
@@ -23,12 +23,16 @@ fn examples() -> Vec<(u8, Picture)> {
         (refusals::SERVICE_LOCATION, |picture| without_endpoints(picture, 0)),
         (refusals::SERVICE_ENDPOINT, |picture| without_endpoints(picture, 1)),
     ];
-    let pictures = changes.into_iter().map(|(number, change)| (number, changed(change)));
-    pictures.chain(wrong_ends(&case_a())).collect()
+    let mut examples = Vec::new();
+    for right in [case_a(), second()] {
+        examples.extend(changes.map(|(number, change)| (number, changed(&right, change))));
+        examples.extend(wrong_ends(&right));
+    }
+    examples
 }
 
-fn changed(change: Change) -> Picture {
-    let mut picture = case_a();
+fn changed(right: &Picture, change: Change) -> Picture {
+    let mut picture = right.clone();
     change(&mut picture);
     picture
 }
@@ -54,7 +58,7 @@ fn the_first_wrong_number_of_links_is_told() {
 fn a_state_comes_before_links() {
     for (_, picture) in examples() {
         let mut bytes = pack(&picture);
-        bytes[HEADER_BYTES] |= 0xC0;
+        bytes[picture.edition.header_bytes()] |= 0xC0;
         assert_eq!(read(&bytes), Err(refusals::STATE), "{picture:?}");
         let mut lists = lists_of(&picture);
         lists.states[3] = 3;
@@ -64,8 +68,8 @@ fn a_state_comes_before_links() {
 
 #[test]
 fn fill_and_spare_bytes_come_after_links() {
-    let right = (refusals::FILL, case_a());
-    for (number, picture) in [right].into_iter().chain(examples()) {
+    let right = [case_a(), second()].map(|right| (refusals::FILL, right));
+    for (number, picture) in right.into_iter().chain(examples()) {
         let mut bytes = [pack(&picture), vec![0]].concat();
         assert_eq!(read(&bytes), Err(number), "a byte too many, {picture:?}");
         bytes.pop();

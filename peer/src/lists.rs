@@ -1,15 +1,18 @@
 //! The lists of a network, as a layout editor has them: written as a picture, and had from one.
 
+use crate::edition::Edition;
 use crate::picture::{pack, Endpoint, Header, Picture, Slot, State};
 use crate::refusals;
 
-/// The four lists and the two sizes that no list tells. Slots (`states`, `near`) and endpoints
-/// (`weights`, `protected`) have a column for each field. Links are from and to, serving links are
-/// location and endpoint. Columns may have any lengths, and numbers any values.
+/// The number of the edition to write, the four lists and the two sizes that no list tells. Slots
+/// (`states`, `near`) and endpoints (`weights`, `protected`) have a column for each field. Links are
+/// from and to, serving links are location and endpoint. Columns may have any lengths, and numbers any
+/// values.
 #[derive(Clone, Debug, PartialEq, Eq)]
 pub struct Lists {
+    pub edition: u32,
     pub block_size: u32,
-    pub near_limit: u8,
+    pub near_limit: u16,
     pub states: Vec<u8>,
     pub near: Vec<bool>,
     pub weights: Vec<u16>,
@@ -22,7 +25,7 @@ impl Lists {
     /// The network that the lists tell, or the number of the first fault that a reader of their
     /// picture would find. Columns of unequal length are no list, and judged with its length.
     fn picture(&self) -> Result<Picture, u8> {
-        let header = self.header();
+        let header = self.header()?;
         if self.near.len() != self.states.len() {
             return Err(refusals::BLOCKS);
         }
@@ -33,6 +36,7 @@ impl Lists {
         header.judge_counts()?;
         let endpoints = self.weights.iter().zip(&self.protected);
         Ok(Picture {
+            edition: header.edition,
             block_size: header.block_size as u8,
             near_limit: self.near_limit,
             slots: self.slots()?,
@@ -42,15 +46,16 @@ impl Lists {
         })
     }
 
-    fn header(&self) -> Header {
-        Header {
+    fn header(&self) -> Result<Header, u8> {
+        Ok(Header {
+            edition: Edition::of(self.edition)?,
             block_size: self.block_size as usize,
             slots: self.states.len(),
             near_limit: self.near_limit,
             endpoints: self.weights.len(),
             links: self.links.len(),
             serving: self.serving.len(),
-        }
+        })
     }
 
     fn slots(&self) -> Result<Vec<Slot>, u8> {
@@ -59,10 +64,7 @@ impl Lists {
     }
 }
 
-fn rows(
-    links: &[[u16; 2]],
-    link: impl Fn(u16, u16) -> Result<(u8, u8), u8>,
-) -> Result<Vec<(u8, u8)>, u8> {
+fn rows<T>(links: &[[u16; 2]], link: impl Fn(u16, u16) -> Result<T, u8>) -> Result<Vec<T>, u8> {
     links.iter().map(|&[first, second]| link(first, second)).collect()
 }
 
@@ -75,19 +77,18 @@ pub fn write(lists: &Lists, buffer: &mut [u8]) -> Result<usize, u8> {
     Ok(bytes.len())
 }
 
-/// The lists that a picture tells.
+/// The lists that a picture tells, and its own edition.
 pub fn lists_of(picture: &Picture) -> Lists {
-    let pairs = |links: &[(u8, u8)]| {
-        links.iter().map(|&(first, second)| [u16::from(first), u16::from(second)]).collect()
-    };
+    let serving = picture.serving.iter();
     Lists {
+        edition: u32::from(picture.edition.number),
         block_size: u32::from(picture.block_size),
         near_limit: picture.near_limit,
         states: picture.slots.iter().map(|slot| slot.state as u8).collect(),
         near: picture.slots.iter().map(|slot| slot.near).collect(),
         weights: picture.endpoints.iter().map(|endpoint| endpoint.weight).collect(),
         protected: picture.endpoints.iter().map(|endpoint| endpoint.protected).collect(),
-        links: pairs(&picture.links),
-        serving: pairs(&picture.serving),
+        links: picture.links.iter().map(|&(from, to)| [from, to]).collect(),
+        serving: serving.map(|&(location, endpoint)| [location, u16::from(endpoint)]).collect(),
     }
 }

@@ -1,11 +1,12 @@
-//! Random networks of many shapes, every one within the limits of document 01.
+//! Random networks of many shapes, every one within the limits of its edition.
 
+use crate::edition::{Edition, EDITIONS, FIRST, MAX_BLOCK_SIZE, MAX_ENDPOINTS, MAX_LINKS, SECOND};
 use crate::picture::{Endpoint, Picture, Slot, State};
-use crate::picture::{MAX_BLOCKS, MAX_BLOCK_SIZE, MAX_ENDPOINTS, MAX_LINKS, MAX_SLOTS};
 use crate::random::Random;
 
 #[derive(Clone, Copy, Debug)]
 pub struct Size {
+    pub edition: Edition,
     pub block_size: usize,
     pub slots: usize,
     pub endpoints: usize,
@@ -18,6 +19,7 @@ impl Size {
     pub fn small(random: &mut Random) -> Size {
         let block_size = random.between(1, 3);
         Size {
+            edition: any_edition(random),
             block_size,
             slots: block_size * random.between(1, 4),
             endpoints: random.between(0, 4),
@@ -34,9 +36,26 @@ impl Size {
 
     /// Blocks of this size, and the rest any up to the limits.
     pub fn of_blocks(random: &mut Random, block_size: usize) -> Size {
-        let blocks = random.between(1, MAX_BLOCKS.min(MAX_SLOTS / block_size));
-        let slots = block_size * blocks;
+        let edition = any_edition(random);
+        Size::from_blocks(random, edition, block_size, 1)
+    }
+
+    /// More slots than the first edition has room for, so that most of these sizes have locations
+    /// that take more than a byte.
+    pub fn beyond_first(random: &mut Random) -> Size {
+        let edition = SECOND;
+        let most = |block_size: &usize| block_size * edition.most_blocks(*block_size);
+        let large: Vec<usize> =
+            (1..=MAX_BLOCK_SIZE).filter(|block_size| most(block_size) > FIRST.max_slots).collect();
+        let block_size = *random.pick(&large);
+        Size::from_blocks(random, edition, block_size, FIRST.max_slots / block_size + 1)
+    }
+
+    /// At least so many blocks of this size, and the rest any up to the limits.
+    fn from_blocks(random: &mut Random, edition: Edition, block_size: usize, least: usize) -> Size {
+        let slots = block_size * random.between(least, edition.most_blocks(block_size));
         Size {
+            edition,
             block_size,
             slots,
             endpoints: random.between(0, MAX_ENDPOINTS),
@@ -45,18 +64,28 @@ impl Size {
         }
     }
 
-    /// Slots, endpoints, links and serving links at their limits, and blocks too where a block has 4
-    /// slots.
+    /// As many blocks as there may be, and endpoints, links and serving links at their limits.
     pub fn full(random: &mut Random) -> Size {
-        let block_size = *random.pick(&[4, 4, 4, 5, 6, 8, 12, 15]);
+        let edition = any_edition(random);
+        let block_size = *random.pick(&[4, 4, 4, 5, 5, 6, 8, 12, 15]);
+        Size::longest(edition, block_size)
+    }
+
+    /// The size of the longest picture with blocks of this size.
+    pub const fn longest(edition: Edition, block_size: usize) -> Size {
         Size {
+            edition,
             block_size,
-            slots: block_size * (MAX_SLOTS / block_size),
+            slots: block_size * edition.most_blocks(block_size),
             endpoints: MAX_ENDPOINTS,
             links: MAX_LINKS,
             serving: MAX_LINKS,
         }
     }
+}
+
+pub fn any_edition(random: &mut Random) -> Edition {
+    *random.pick(&EDITIONS)
 }
 
 #[derive(Clone, Copy, Debug)]
@@ -96,8 +125,17 @@ pub fn network(random: &mut Random, shape: Shape, size: Size) -> Picture {
     let endpoints = random_endpoints(random, size.endpoints);
     let links = random_links(random, shape, size);
     let serving = random_serving(random, size);
-    let near_limit = *random.pick(&[0, 1, size.slots / 2, size.slots, 255]) as u8;
-    Picture { block_size: size.block_size as u8, near_limit, slots, endpoints, links, serving }
+    let most = size.edition.max_near_limit();
+    let near_limit = *random.pick(&[0, 1, size.slots as u16 / 2, size.slots as u16, 255, most]);
+    Picture {
+        edition: size.edition,
+        block_size: size.block_size as u8,
+        near_limit,
+        slots,
+        endpoints,
+        links,
+        serving,
+    }
 }
 
 /// A dense random network for measuring: every slot is held and near and, where there are links
@@ -105,9 +143,9 @@ pub fn network(random: &mut Random, shape: Shape, size: Size) -> Picture {
 pub fn dense_held(random: &mut Random, size: Size) -> Picture {
     let mut picture = network(random, Shape::Dense, size);
     hold_all(&mut picture);
-    picture.near_limit = 255;
+    picture.near_limit = size.edition.max_near_limit();
     for (slot, link) in (1..=size.slots).zip(&mut picture.links) {
-        *link = (random.below(slot) as u8, slot as u8);
+        *link = (random.below(slot) as u16, slot as u16);
     }
     random.shuffle(&mut picture.links);
     for endpoint in &mut picture.endpoints {
@@ -117,28 +155,36 @@ pub fn dense_held(random: &mut Random, size: Size) -> Picture {
 }
 
 /// Each slot linked to the next in rising order, every slot held and near and serving.
-pub fn long_chain(block_size: usize, slots: usize, endpoints: usize) -> Picture {
-    let served = |slot: usize| (slot as u8, (slot % endpoints + 1) as u8);
+pub fn long_chain(edition: Edition, block_size: usize, slots: usize, endpoints: usize) -> Picture {
+    let served = |slot: usize| (slot as u16, (slot % endpoints + 1) as u8);
     Picture {
+        edition,
         block_size: block_size as u8,
-        near_limit: 255,
+        near_limit: edition.max_near_limit(),
         slots: vec![Slot { state: State::Held, near: true }; slots],
         endpoints: vec![Endpoint { weight: 1, protected: false }; endpoints],
-        links: (0..slots).map(|from| (from as u8, from as u8 + 1)).collect(),
+        links: (0..slots as u16).map(|from| (from, from + 1)).collect(),
         serving: (1..=slots).map(served).collect(),
     }
 }
 
 /// A network in which blocks often lose equal weight and cut unequal numbers of endpoints. Each
 /// endpoint has a home, the block that serves it; there are at least as many endpoints as blocks.
-pub fn tied(random: &mut Random, block_size: usize, blocks: usize, endpoints: usize) -> Picture {
+pub fn tied(
+    random: &mut Random,
+    edition: Edition,
+    block_size: usize,
+    blocks: usize,
+    endpoints: usize,
+) -> Picture {
     let homes = random_homes(random, blocks, endpoints);
     let weights = equal_sums(random, &homes);
     let protected = rarely(random);
     let endpoint = |weight| Endpoint { weight, protected: random.below(32) < protected };
     Picture {
+        edition,
         block_size: block_size as u8,
-        near_limit: 255,
+        near_limit: edition.max_near_limit(),
         endpoints: weights.into_iter().map(endpoint).collect(),
         slots: mostly_held_near(random, block_size * blocks),
         links: mostly_from_origin(random, block_size * blocks),
@@ -185,7 +231,7 @@ fn random_endpoints(random: &mut Random, count: usize) -> Vec<Endpoint> {
         .collect()
 }
 
-fn random_serving(random: &mut Random, size: Size) -> Vec<(u8, u8)> {
+fn random_serving(random: &mut Random, size: Size) -> Vec<(u16, u8)> {
     if size.endpoints == 0 {
         return Vec::new();
     }
@@ -195,7 +241,7 @@ fn random_serving(random: &mut Random, size: Size) -> Vec<(u8, u8)> {
         _ => size.slots,
     };
     (0..size.serving)
-        .map(|_| (random.between(0, locations) as u8, random.between(1, size.endpoints) as u8))
+        .map(|_| (random.between(0, locations) as u16, random.between(1, size.endpoints) as u8))
         .collect()
 }
 
@@ -249,13 +295,13 @@ fn mostly_held_near(random: &mut Random, count: usize) -> Vec<Slot> {
 
 /// A link to each slot, from the origin or, so that blocks cut what hangs on them too, a lower slot;
 /// and links of any kind, which let other forests be.
-fn mostly_from_origin(random: &mut Random, slots: usize) -> Vec<(u8, u8)> {
+fn mostly_from_origin(random: &mut Random, slots: usize) -> Vec<(u16, u16)> {
     let hanging = rarely(random);
     let from = |random: &mut Random, slot: usize| match random.below(32) < hanging {
         false => 0,
-        true => random.below(slot) as u8,
+        true => random.below(slot) as u16,
     };
-    let mut links: Vec<(u8, u8)> = (1..=slots).map(|slot| (from(random, slot), slot as u8)).collect();
+    let mut links: Vec<(u16, u16)> = (1..=slots).map(|slot| (from(random, slot), slot as u16)).collect();
     links.extend((0..random.between(0, slots)).map(|_| any_link(random, slots)));
     random.shuffle(&mut links);
     links
@@ -268,28 +314,28 @@ fn mostly_from_home(
     block_size: usize,
     blocks: usize,
     homes: &[usize],
-) -> Vec<(u8, u8)> {
+) -> Vec<(u16, u8)> {
     let elsewhere = rarely(random);
     let mut serving = Vec::new();
     for (endpoint, home) in (1..).zip(homes) {
         for _ in 0..random.between(1, 3) {
-            serving.push(((home * block_size + random.between(1, block_size)) as u8, endpoint));
+            serving.push(((home * block_size + random.between(1, block_size)) as u16, endpoint));
         }
         if random.below(32) < elsewhere {
-            serving.push((random.between(0, block_size * blocks) as u8, endpoint));
+            serving.push((random.between(0, block_size * blocks) as u16, endpoint));
         }
     }
     random.shuffle(&mut serving);
     serving
 }
 
-fn random_links(random: &mut Random, shape: Shape, size: Size) -> Vec<(u8, u8)> {
+fn random_links(random: &mut Random, shape: Shape, size: Size) -> Vec<(u16, u16)> {
     let mut links = match shape {
         Shape::Dense => filled(random, size.links, |random| any_link(random, size.slots)),
         Shape::Chain => chain(random, size.slots),
         Shape::Cycle => cycle(random, size.slots),
         Shape::Star => star(random, size.slots),
-        Shape::Flat => filled(random, size.links, |random| (0, random.between(0, size.slots) as u8)),
+        Shape::Flat => filled(random, size.links, |random| (0, random.between(0, size.slots) as u16)),
         Shape::Unreached => filled(random, size.links, |random| apart(random, size.slots)),
         Shape::Repeated => repeated(random, size),
         Shape::Layers => filled(random, size.links, |random| between_layers(random, size.slots)),
@@ -303,17 +349,17 @@ fn random_links(random: &mut Random, shape: Shape, size: Size) -> Vec<(u8, u8)> 
 fn filled(
     random: &mut Random,
     count: usize,
-    mut link: impl FnMut(&mut Random) -> (u8, u8),
-) -> Vec<(u8, u8)> {
+    mut link: impl FnMut(&mut Random) -> (u16, u16),
+) -> Vec<(u16, u16)> {
     (0..count).map(|_| link(random)).collect()
 }
 
-fn any_link(random: &mut Random, slots: usize) -> (u8, u8) {
-    (random.between(0, slots) as u8, random.between(0, slots) as u8)
+fn any_link(random: &mut Random, slots: usize) -> (u16, u16) {
+    (random.between(0, slots) as u16, random.between(0, slots) as u16)
 }
 
 /// A few links of any kind in some networks, so that no shape is always pure.
-fn add_some(random: &mut Random, links: &mut Vec<(u8, u8)>, size: Size) {
+fn add_some(random: &mut Random, links: &mut Vec<(u16, u16)>, size: Size) {
     if random.once_in(3) {
         for _ in 0..random.below(4) {
             links.push(any_link(random, size.slots));
@@ -321,8 +367,8 @@ fn add_some(random: &mut Random, links: &mut Vec<(u8, u8)>, size: Size) {
     }
 }
 
-fn chain(random: &mut Random, slots: usize) -> Vec<(u8, u8)> {
-    let mut order: Vec<u8> = (1..=slots as u8).collect();
+fn chain(random: &mut Random, slots: usize) -> Vec<(u16, u16)> {
+    let mut order: Vec<u16> = (1..=slots as u16).collect();
     if random.once_in(2) {
         random.shuffle(&mut order);
     }
@@ -330,7 +376,7 @@ fn chain(random: &mut Random, slots: usize) -> Vec<(u8, u8)> {
     order.windows(2).map(|pair| (pair[0], pair[1])).collect()
 }
 
-fn cycle(random: &mut Random, slots: usize) -> Vec<(u8, u8)> {
+fn cycle(random: &mut Random, slots: usize) -> Vec<(u16, u16)> {
     let mut links = chain(random, slots);
     links.push((links[slots - 1].1, links[0].1));
     if random.once_in(2) {
@@ -339,28 +385,28 @@ fn cycle(random: &mut Random, slots: usize) -> Vec<(u8, u8)> {
     links
 }
 
-fn star(random: &mut Random, slots: usize) -> Vec<(u8, u8)> {
-    let hub = random.between(1, slots) as u8;
-    let mut links: Vec<(u8, u8)> = (1..=slots as u8).map(|to| (hub, to)).collect();
+fn star(random: &mut Random, slots: usize) -> Vec<(u16, u16)> {
+    let hub = random.between(1, slots) as u16;
+    let mut links: Vec<(u16, u16)> = (1..=slots as u16).map(|to| (hub, to)).collect();
     links.push((0, hub));
     links
 }
 
-fn apart(random: &mut Random, slots: usize) -> (u8, u8) {
+fn apart(random: &mut Random, slots: usize) -> (u16, u16) {
     let edge = slots / 4;
     match random.once_in(4) {
-        true => (random.between(0, edge) as u8, random.between(0, edge) as u8),
-        false => (random.between(edge + 1, slots) as u8, random.between(0, slots) as u8),
+        true => (random.between(0, edge) as u16, random.between(0, edge) as u16),
+        false => (random.between(edge + 1, slots) as u16, random.between(0, slots) as u16),
     }
 }
 
-fn repeated(random: &mut Random, size: Size) -> Vec<(u8, u8)> {
+fn repeated(random: &mut Random, size: Size) -> Vec<(u16, u16)> {
     let mut few = vec![(0, 1), (1, 1), (1, 0), (0, 0)];
     few.extend(filled(random, 6, |random| any_link(random, size.slots)));
     filled(random, size.links, |random| *random.pick(&few))
 }
 
-fn between_layers(random: &mut Random, slots: usize) -> (u8, u8) {
+fn between_layers(random: &mut Random, slots: usize) -> (u16, u16) {
     const WIDTH: usize = 5;
     let layer = random.below(slots.div_ceil(WIDTH));
     let to = (layer * WIDTH + random.between(1, WIDTH)).min(slots);
@@ -368,5 +414,5 @@ fn between_layers(random: &mut Random, slots: usize) -> (u8, u8) {
         0 => 0,
         _ => (layer - 1) * WIDTH + random.between(1, WIDTH),
     };
-    (from as u8, to as u8)
+    (from as u16, to as u16)
 }

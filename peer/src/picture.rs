@@ -3,21 +3,9 @@
 use std::ops::{Range, RangeInclusive};
 
 use crate::bits::{BitReader, BitWriter};
+use crate::edition::{Edition, BLOCK_SIZE_WIDTH, COUNT_WIDTH, EDITION_WIDTH, ENDPOINT_WIDTH, FIRST};
+use crate::edition::{MAX_BLOCKS, MAX_BLOCK_SIZE, MAX_ENDPOINTS, MAX_LINKS};
 use crate::refusals;
-
-pub const EDITION: u8 = 1;
-pub const HEADER_BYTES: usize = 7;
-pub const MAX_BLOCK_SIZE: usize = 15;
-pub const MAX_SLOTS: usize = 240;
-pub const MAX_BLOCKS: usize = 60;
-pub const MAX_ENDPOINTS: usize = 200;
-pub const MAX_LINKS: usize = 2000;
-pub const MAX_PICTURE_BYTES: usize = picture_bytes(MAX_SLOTS, MAX_ENDPOINTS, 2 * MAX_LINKS);
-
-/// The bytes of a picture; links are those of both kinds.
-pub const fn picture_bytes(slots: usize, endpoints: usize, links: usize) -> usize {
-    HEADER_BYTES + (3 * slots + 17 * endpoints + 16 * links).div_ceil(8)
-}
 
 #[derive(Clone, Copy, Debug, PartialEq, Eq)]
 pub enum State {
@@ -53,12 +41,13 @@ pub struct Endpoint {
 /// `endpoints[k - 1]`. Links are (from, to), serving links are (location, endpoint).
 #[derive(Clone, Debug, PartialEq, Eq)]
 pub struct Picture {
+    pub edition: Edition,
     pub block_size: u8,
-    pub near_limit: u8,
+    pub near_limit: u16,
     pub slots: Vec<Slot>,
     pub endpoints: Vec<Endpoint>,
-    pub links: Vec<(u8, u8)>,
-    pub serving: Vec<(u8, u8)>,
+    pub links: Vec<(u16, u16)>,
+    pub serving: Vec<(u16, u8)>,
 }
 
 impl Picture {
@@ -103,34 +92,36 @@ impl Slot {
 
 /// What a header says of sizes, before it is judged.
 pub(crate) struct Header {
+    pub edition: Edition,
     pub block_size: usize,
     pub slots: usize,
-    pub near_limit: u8,
+    pub near_limit: u16,
     pub endpoints: usize,
     pub links: usize,
     pub serving: usize,
 }
 
 impl Header {
-    fn read(fields: &mut BitReader) -> Result<Header, u8> {
-        if fields.byte(4) != EDITION {
-            return Err(refusals::EDITION);
+    /// The fields behind the edition's, of a header that is there.
+    fn read(edition: Edition, fields: &mut BitReader) -> Header {
+        Header {
+            edition,
+            block_size: fields.field(BLOCK_SIZE_WIDTH) as usize,
+            slots: fields.field(edition.location_width) as usize,
+            near_limit: fields.field(edition.location_width) as u16,
+            endpoints: fields.field(ENDPOINT_WIDTH) as usize,
+            links: fields.field(COUNT_WIDTH) as usize,
+            serving: fields.field(COUNT_WIDTH) as usize,
         }
-        Ok(Header {
-            block_size: fields.field(4) as usize,
-            slots: fields.field(8) as usize,
-            near_limit: fields.byte(8),
-            endpoints: fields.field(8) as usize,
-            links: fields.field(12) as usize,
-            serving: fields.field(12) as usize,
-        })
     }
 
+    /// A near limit that is read always fits; one that is to be written need not.
     pub fn judge_blocks(&self) -> Result<(), u8> {
         let fits = (1..=MAX_BLOCK_SIZE).contains(&self.block_size)
-            && (1..=MAX_SLOTS).contains(&self.slots)
+            && (1..=self.edition.max_slots).contains(&self.slots)
             && self.slots % self.block_size == 0
-            && self.slots / self.block_size <= MAX_BLOCKS;
+            && self.slots / self.block_size <= MAX_BLOCKS
+            && self.near_limit <= self.edition.max_near_limit();
         fits.then_some(()).ok_or(refusals::BLOCKS)
     }
 
@@ -141,36 +132,33 @@ impl Header {
     }
 
     /// A link whose ends are both there.
-    pub fn link(&self, from: u16, to: u16) -> Result<(u8, u8), u8> {
+    pub fn link(&self, from: u16, to: u16) -> Result<(u16, u16), u8> {
         let from = named(from, 0..=self.slots, refusals::LINK)?;
         let to = named(to, 0..=self.slots, refusals::LINK)?;
         Ok((from, to))
     }
 
     /// A serving link whose location and endpoint are there, judged in this order.
-    pub fn serving_link(&self, location: u16, endpoint: u16) -> Result<(u8, u8), u8> {
+    pub fn serving_link(&self, location: u16, endpoint: u16) -> Result<(u16, u8), u8> {
         let location = named(location, 0..=self.slots, refusals::SERVICE_LOCATION)?;
         let endpoint = named(endpoint, 1..=self.endpoints, refusals::SERVICE_ENDPOINT)?;
-        Ok((location, endpoint))
+        // An endpoint that is there has a number of eight bits.
+        Ok((location, endpoint as u8))
     }
 
     fn picture_bytes(&self) -> usize {
-        picture_bytes(self.slots, self.endpoints, self.links + self.serving)
+        self.edition.picture_bytes(self.slots, self.endpoints, self.links, self.serving)
     }
 }
 
-/// What is there has a number of eight bits.
-fn named(number: u16, there: RangeInclusive<usize>, refusal: u8) -> Result<u8, u8> {
-    there.contains(&usize::from(number)).then_some(number as u8).ok_or(refusal)
+fn named(number: u16, there: RangeInclusive<usize>, refusal: u8) -> Result<u16, u8> {
+    there.contains(&usize::from(number)).then_some(number).ok_or(refusal)
 }
 
 /// Reads a picture, or tells its first fault.
 pub fn read(bytes: &[u8]) -> Result<Picture, u8> {
-    if bytes.len() < HEADER_BYTES {
-        return Err(refusals::SHORT);
-    }
     let mut fields = BitReader::new(bytes);
-    let header = Header::read(&mut fields)?;
+    let header = read_header(&mut fields, bytes.len())?;
     header.judge_blocks()?;
     header.judge_counts()?;
     let length = header.picture_bytes();
@@ -185,14 +173,30 @@ pub fn read(bytes: &[u8]) -> Result<Picture, u8> {
     Ok(picture)
 }
 
+/// Bytes that are too few for the shorter header have no edition; then the edition says how many its
+/// own header takes.
+fn read_header(fields: &mut BitReader, length: usize) -> Result<Header, u8> {
+    if length < FIRST.header_bytes() {
+        return Err(refusals::SHORT);
+    }
+    let edition = Edition::of(fields.field(EDITION_WIDTH))?;
+    if length < edition.header_bytes() {
+        return Err(refusals::SHORT);
+    }
+    Ok(Header::read(edition, fields))
+}
+
 fn read_body(fields: &mut BitReader, header: &Header) -> Result<Picture, u8> {
     let slots = (0..header.slots).map(|_| read_slot(fields)).collect::<Result<_, u8>>()?;
     let endpoints = (0..header.endpoints).map(|_| read_endpoint(fields)).collect();
-    let links = read_links(fields, header.links, |from, to| header.link(from, to))?;
-    let serving = read_links(fields, header.serving, |location, endpoint| {
-        header.serving_link(location, endpoint)
-    })?;
+    let location = header.edition.location_width;
+    let links = read_links(fields, header.links, [location; 2], |from, to| header.link(from, to))?;
+    let serving =
+        read_links(fields, header.serving, [location, ENDPOINT_WIDTH], |location, endpoint| {
+            header.serving_link(location, endpoint)
+        })?;
     Ok(Picture {
+        edition: header.edition,
         block_size: header.block_size as u8,
         near_limit: header.near_limit,
         slots,
@@ -210,30 +214,32 @@ fn read_endpoint(fields: &mut BitReader) -> Endpoint {
     Endpoint { weight: fields.field(16) as u16, protected: fields.field(1) == 1 }
 }
 
-/// Links and serving links share their layout; what they may name differs.
-fn read_links(
+/// Links and serving links are two numbers each; their widths and what they may name differ.
+fn read_links<T>(
     fields: &mut BitReader,
     count: usize,
-    link: impl Fn(u16, u16) -> Result<(u8, u8), u8>,
-) -> Result<Vec<(u8, u8)>, u8> {
+    widths: [usize; 2],
+    link: impl Fn(u16, u16) -> Result<T, u8>,
+) -> Result<Vec<T>, u8> {
     let mut links = Vec::with_capacity(count);
     for _ in 0..count {
-        let (first, second) = (fields.byte(8), fields.byte(8));
-        links.push(link(u16::from(first), u16::from(second))?);
+        let [first, second] = widths.map(|width| fields.field(width) as u16);
+        links.push(link(first, second)?);
     }
     Ok(links)
 }
 
 /// Packs a picture that keeps the limits.
 pub fn pack(picture: &Picture) -> Vec<u8> {
+    let location_width = picture.edition.location_width;
     let mut fields = BitWriter::new();
-    fields.field(4, u32::from(EDITION));
-    fields.field(4, u32::from(picture.block_size));
-    fields.field(8, picture.slots.len() as u32);
-    fields.field(8, u32::from(picture.near_limit));
-    fields.field(8, picture.endpoints.len() as u32);
-    fields.field(12, picture.links.len() as u32);
-    fields.field(12, picture.serving.len() as u32);
+    fields.field(EDITION_WIDTH, u32::from(picture.edition.number));
+    fields.field(BLOCK_SIZE_WIDTH, u32::from(picture.block_size));
+    fields.field(location_width, picture.slots.len() as u32);
+    fields.field(location_width, u32::from(picture.near_limit));
+    fields.field(ENDPOINT_WIDTH, picture.endpoints.len() as u32);
+    fields.field(COUNT_WIDTH, picture.links.len() as u32);
+    fields.field(COUNT_WIDTH, picture.serving.len() as u32);
     for slot in &picture.slots {
         fields.field(2, slot.state as u32);
         fields.field(1, u32::from(slot.near));
@@ -242,9 +248,13 @@ pub fn pack(picture: &Picture) -> Vec<u8> {
         fields.field(16, u32::from(endpoint.weight));
         fields.field(1, u32::from(endpoint.protected));
     }
-    for (first, second) in picture.links.iter().chain(&picture.serving) {
-        fields.field(8, u32::from(*first));
-        fields.field(8, u32::from(*second));
+    for (from, to) in &picture.links {
+        fields.field(location_width, u32::from(*from));
+        fields.field(location_width, u32::from(*to));
+    }
+    for (location, endpoint) in &picture.serving {
+        fields.field(location_width, u32::from(*location));
+        fields.field(ENDPOINT_WIDTH, u32::from(*endpoint));
     }
     fields.into_bytes()
 }

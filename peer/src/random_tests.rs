@@ -1,13 +1,16 @@
-//! Properties on random networks, and the forests held against document 01's own words.
+//! Properties on random networks of both editions, and the forests held against document 01's own
+//! words.
 
+use crate::bits::BitWriter;
+use crate::edition::MAX_BLOCK_SIZE;
 use crate::foreign::{self, GROWTHS};
-use crate::networks::{network, tied, Size, SHAPES};
-use crate::picture::{State, MAX_BLOCK_SIZE};
+use crate::networks::{any_edition, network, tied, Size, SHAPES};
+use crate::picture::State;
 use crate::random::Random;
 use crate::tests::{choice_of, evidence_of};
 use crate::{check, evict, lists_of, pack, read, refusals, weigh, write, Picture};
 
-fn small_networks(seed: u64, count: usize) -> impl Iterator<Item = Picture> {
+pub fn small_networks(seed: u64, count: usize) -> impl Iterator<Item = Picture> {
     let mut random = Random::new(seed);
     (0..count).map(move |_| {
         let size = Size::small(&mut random);
@@ -17,19 +20,20 @@ fn small_networks(seed: u64, count: usize) -> impl Iterator<Item = Picture> {
 }
 
 /// Ties of small blocks, and of blocks of up to fifteen slots.
-fn tied_networks(seed: u64, count: usize) -> impl Iterator<Item = Picture> {
+pub fn tied_networks(seed: u64, count: usize) -> impl Iterator<Item = Picture> {
     let mut random = Random::new(seed);
     (0..count).map(move |round| {
         let largest = if round % 4 == 0 { MAX_BLOCK_SIZE } else { 3 };
         let (block_size, blocks) = (random.between(1, largest), random.between(2, 4));
         let endpoints = blocks + random.below(6);
-        tied(&mut random, block_size, blocks, endpoints)
+        let edition = any_edition(&mut random);
+        tied(&mut random, edition, block_size, blocks, endpoints)
     })
 }
 
 /// The fewest links from the origin to each location, found by following every link until nothing
 /// changes any more; no search, no order.
-fn fewest_links(picture: &Picture, evicted: usize) -> Vec<Option<u8>> {
+fn fewest_links(picture: &Picture, evicted: usize) -> Vec<Option<u16>> {
     let carries = |slot: usize| {
         let block = (slot - 1) / usize::from(picture.block_size);
         picture.slots[slot - 1].state == State::Held && block != evicted
@@ -40,38 +44,42 @@ fn fewest_links(picture: &Picture, evicted: usize) -> Vec<Option<u8>> {
         for &(from, to) in &picture.links {
             let (from, to) = (usize::from(from), usize::from(to));
             if let (Some(depth), true) = (fewest[from], to > 0 && carries(to)) {
-                fewest[to] = Some(fewest[to].map_or(depth + 1, |old: u8| old.min(depth + 1)));
+                fewest[to] = Some(fewest[to].map_or(depth + 1, |old: u16| old.min(depth + 1)));
             }
         }
     }
     fewest
 }
 
-/// The forest's bytes by the words of document 01.
-fn forest_by_words(picture: &Picture, fewest: &[Option<u8>]) -> Vec<u8> {
-    let entry = |slot: usize| match fewest[slot] {
+/// The forest's bytes by the words of document 01, field by field.
+fn forest_by_words(picture: &Picture, fewest: &[Option<u16>]) -> Vec<u8> {
+    let slots = picture.slots.len() as u16;
+    let entry = |slot: u16| match fewest[usize::from(slot)] {
         None => [0, 0],
         Some(depth) => {
-            let leads_here = |from: &u8| {
-                fewest[usize::from(*from)] == Some(depth - 1)
-                    && picture.links.contains(&(*from, slot as u8))
+            let leads_here = |from: &u16| {
+                fewest[usize::from(*from)] == Some(depth - 1) && picture.links.contains(&(*from, slot))
             };
-            let parent = (0..=picture.slots.len() as u8).find(leads_here);
+            let parent = (0..=slots).find(leads_here);
             [parent.expect("a reached slot has a parent"), depth]
         }
     };
-    (1..=picture.slots.len()).flat_map(entry).collect()
+    let mut fields = BitWriter::new();
+    for number in (1..=slots).flat_map(entry) {
+        fields.field(picture.edition.location_width, u32::from(number));
+    }
+    fields.into_bytes()
 }
 
-fn served_by_words(picture: &Picture, fewest: &[Option<u8>], endpoint: usize) -> bool {
-    let serves = |(location, to): &(u8, u8)| {
+fn served_by_words(picture: &Picture, fewest: &[Option<u16>], endpoint: usize) -> bool {
+    let serves = |(location, to): &(u16, u8)| {
         usize::from(*to) == endpoint && fewest[usize::from(*location)].is_some()
     };
     picture.serving.iter().any(serves)
 }
 
 /// Served weight, loss and mark between two states of reach, endpoint by endpoint.
-fn weighed_by_words(picture: &Picture, now: &[Option<u8>], then: &[Option<u8>]) -> (u32, u32, u8) {
+fn weighed_by_words(picture: &Picture, now: &[Option<u16>], then: &[Option<u16>]) -> (u32, u32, u8) {
     let (mut served, mut loss, mut mark) = (0, 0, 0);
     for (endpoint, facts) in (1..).zip(&picture.endpoints) {
         if served_by_words(picture, now, endpoint) {
@@ -86,7 +94,7 @@ fn weighed_by_words(picture: &Picture, now: &[Option<u8>], then: &[Option<u8>]) 
 }
 
 /// How many endpoints are served now and not then.
-fn cut_by_words(picture: &Picture, now: &[Option<u8>], then: &[Option<u8>]) -> usize {
+fn cut_by_words(picture: &Picture, now: &[Option<u16>], then: &[Option<u16>]) -> usize {
     let is_cut = |endpoint: &usize| {
         served_by_words(picture, now, *endpoint) && !served_by_words(picture, then, *endpoint)
     };
@@ -104,10 +112,15 @@ fn is_candidate_by_words(picture: &Picture, block: usize) -> bool {
 
 #[test]
 fn weights_and_forests_follow_the_words() {
-    for picture in small_networks(2, 1000).chain(tied_networks(7, 200)) {
+    let mut random = Random::new(8);
+    let large = SHAPES.map(|shape| {
+        let size = Size::beyond_first(&mut random);
+        network(&mut random, shape, size)
+    });
+    for picture in small_networks(2, 1000).chain(tied_networks(7, 200)).chain(large) {
         let bytes = pack(&picture);
         let evidence = evidence_of(&bytes);
-        let length = 2 * picture.slots.len();
+        let length = picture.slots.len() * [2, 3][usize::from(picture.edition.number) - 1];
         let now = fewest_links(&picture, usize::MAX);
         assert_eq!(evidence[9..9 + length], forest_by_words(&picture, &now));
         let mut sections = evidence[9 + length..].chunks(5 + length);
@@ -170,7 +183,12 @@ fn choices_and_verdicts_follow_the_words() {
 #[test]
 fn every_evidence_passes_and_every_choice_can_be_evicted() {
     let mut random = Random::new(1);
-    let sizes = [Size::any(&mut random), Size::any(&mut random), Size::full(&mut random)];
+    let sizes = [
+        Size::any(&mut random),
+        Size::any(&mut random),
+        Size::beyond_first(&mut random),
+        Size::full(&mut random),
+    ];
     let large: Vec<Picture> = SHAPES
         .iter()
         .flat_map(|shape| sizes.map(|size| (*shape, size)))

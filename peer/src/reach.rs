@@ -12,8 +12,8 @@ pub const NOTHING: Range<usize> = 0..0;
 /// slot with depth 0 is not reached.
 #[derive(Clone, Debug, PartialEq, Eq)]
 pub struct Forest {
-    pub parent: Vec<u8>,
-    pub depth: Vec<u8>,
+    pub parent: Vec<u16>,
+    pub depth: Vec<u16>,
 }
 
 impl Forest {
@@ -47,9 +47,9 @@ impl Cut {
 pub struct Network<'p> {
     pub picture: &'p Picture,
     /// For each location the locations that it has a link to, each once, rising.
-    pub links: Vec<Vec<u8>>,
+    pub links: Vec<Vec<u16>>,
     /// For each endpoint the locations with a serving link to it.
-    feeders: Vec<Vec<u8>>,
+    feeders: Vec<Vec<u16>>,
 }
 
 impl<'p> Network<'p> {

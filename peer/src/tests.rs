@@ -1,10 +1,8 @@
 //! Document 01's examples and its table of numbers, with those that 02 adds.
 
-use crate::choice::evidence_bytes;
+use crate::edition::{FIRST, MAX_BLOCKS, MAX_BLOCK_SIZE, MAX_ENDPOINTS, MAX_EVIDENCE_BYTES};
+use crate::edition::{MAX_LINKS, MAX_PICTURE_BYTES, MAX_SLOTS};
 use crate::picture::State;
-use crate::picture::{
-    MAX_BLOCKS, MAX_BLOCK_SIZE, MAX_ENDPOINTS, MAX_LINKS, MAX_PICTURE_BYTES, MAX_SLOTS,
-};
 use crate::samples::{all, case, case_a, files, longest, wide, A_BYTES, A_EVIDENCE};
 use crate::{check, choose, evict, free, listing, pack, read, refusals, reload, show, weigh, Picture};
 use crate::{lists_of, write, Lists};
@@ -14,7 +12,7 @@ fn bytes_of(letter: char) -> Vec<u8> {
 }
 
 pub fn evidence_of(picture: &[u8]) -> Vec<u8> {
-    let mut buffer = vec![0xEE; evidence_bytes(MAX_SLOTS, MAX_BLOCKS) + 11];
+    let mut buffer = vec![0xEE; MAX_EVIDENCE_BYTES + 11];
     let length = choose(picture, &mut buffer).expect("an accepted picture");
     assert!(buffer[length..].iter().all(|byte| *byte == 0xEE));
     buffer.truncate(length);
@@ -25,7 +23,7 @@ pub fn evidence_of(picture: &[u8]) -> Vec<u8> {
 pub fn choice_of(picture: &[u8]) -> (u32, Option<(u8, u32)>) {
     let head = evidence_of(picture);
     let number = |bytes: &[u8]| bytes.iter().fold(0, |sum, byte| sum * 256 + u32::from(*byte));
-    let chosen = (head[0] == 0x11).then(|| (head[1], number(&head[6..9])));
+    let chosen = (head[0] % 16 == 1).then(|| (head[1], number(&head[6..9])));
     (number(&head[3..6]), chosen)
 }
 
@@ -94,8 +92,8 @@ fn the_header_has_the_limits() {
         ("BLOCKS_MAX", MAX_BLOCKS),
         ("ENDPOINTS_MAX", MAX_ENDPOINTS),
         ("LINKS_MAX", MAX_LINKS),
-        ("PICTURE_MAX", pack(&longest()).len()),
-        ("EVIDENCE_MAX", evidence_bytes(MAX_SLOTS, MAX_BLOCKS)),
+        ("PICTURE_MAX", MAX_PICTURE_BYTES),
+        ("EVIDENCE_MAX", MAX_EVIDENCE_BYTES),
     ];
     for (name, value) in sizes {
         assert_eq!(in_header(&format!("BLOCKPLAN_{name}")), value, "{name}");
@@ -209,7 +207,7 @@ fn numbers_1_to_7_17_and_18_by_example() {
     let spare_byte = [&A_BYTES[..], &[0]].concat();
     let examples = [
         (refusals::SHORT, Vec::new()),
-        (refusals::EDITION, changed(0, 0x22)),
+        (refusals::EDITION, changed(0, 0x32)),
         (refusals::BLOCKS, changed(0, 0x13)),
         (refusals::COUNTS, changed(3, 201)),
         (refusals::STATE, changed(7, 0xE4)),
@@ -282,7 +280,9 @@ fn limits_are_those_of_the_documents() {
     assert_eq!(header(0, 4, 0), Err(refusals::BLOCKS));
     assert_eq!(header(1, 0, 0), Err(refusals::BLOCKS));
     assert_eq!(header(1, 60, 201), Err(refusals::COUNTS));
-    assert_eq!(evidence_bytes(240, 60), 29589);
+    assert_eq!(FIRST.evidence_bytes(240, 60), 29589);
+    assert_eq!(FIRST.max_evidence_bytes(), 29589);
+    assert_eq!(FIRST.max_picture_bytes(), 8522);
 }
 
 #[test]
@@ -333,6 +333,7 @@ fn show_gives_the_chosen_section() {
 /// Case A's lists by its description.
 fn lists_a() -> Lists {
     Lists {
+        edition: 1,
         block_size: 2,
         near_limit: 2,
         states: vec![0; 4],
@@ -384,7 +385,7 @@ fn every_sample_is_written_as_it_was_read() {
             assert_eq!(written(&lists_of(&picture), bytes.len()), Ok(bytes), "{name}");
         }
     }
-    assert_eq!(pack(&longest()).len(), MAX_PICTURE_BYTES);
+    assert_eq!(pack(&longest()).len(), FIRST.max_picture_bytes());
 }
 
 #[test]

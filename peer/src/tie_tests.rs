@@ -1,13 +1,14 @@
 //! Candidates of equal loss: the one that cuts fewer endpoints goes, then the lower one, and
 //! evidence may name any that cuts as few.
 
-use crate::picture::{Endpoint, Slot, State, MAX_ENDPOINTS};
+use crate::edition::{FIRST, MAX_ENDPOINTS};
+use crate::picture::{Endpoint, Slot, State};
 use crate::samples::{case, tie};
 use crate::tests::{choice_of, evidence_of};
 use crate::{check, listing, pack, refusals, show, weigh, Picture};
 
 /// An endpoint by its weight and the locations that serve it.
-type Drawn<'d> = (u16, &'d [u8]);
+type Drawn<'d> = (u16, &'d [u16]);
 
 /// Blocks of one slot, each held, near and linked from the origin, so that block b is location b + 1
 /// and cuts the endpoints that no other location serves. No endpoint is protected.
@@ -16,6 +17,7 @@ fn drawn(blocks: usize, endpoints: &[Drawn]) -> Picture {
         locations.iter().map(move |location| (*location, endpoint))
     });
     Picture {
+        edition: FIRST,
         block_size: 1,
         near_limit: 255,
         slots: vec![Slot { state: State::Held, near: true }; blocks],
@@ -23,7 +25,7 @@ fn drawn(blocks: usize, endpoints: &[Drawn]) -> Picture {
             .iter()
             .map(|(weight, _)| Endpoint { weight: *weight, protected: false })
             .collect(),
-        links: (1..=blocks as u8).map(|slot| (0, slot)).collect(),
+        links: (1..=blocks as u16).map(|slot| (0, slot)).collect(),
         serving: serving.collect(),
     }
 }

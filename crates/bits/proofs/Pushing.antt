@@ -87,6 +87,23 @@ module _ {old : List ℕ} {p w all : ℕ} where
         small = rw (last, f) (mod-lt all (pow-pos left));
       }
 
+-- ---- a field of c whole bytes, from byte k on
+
+pub bytes-begun : (old : List ℕ) (k c v : ℕ) → ((j : ℕ) → getD old j 0 < 256) → Pushing old (k * 8) (c * 8) v old (c * 8) k
+bytes-begun old k c v b =
+    let left : k * 8 % 8 + c * 8 ≡ c * 8 = omega arith in
+    let place : k * 8 / 8 ≡ k = omega arith in
+    rw (left, place) at (push-begun {old = old} {p = k * 8} {w = c * 8} {all = v} b)
+
+pub bytes-ended : {old new : List ℕ} (k c : ℕ) {v j : ℕ} → Pushing old (k * 8) (c * 8) v new 0 j → new ≡ putField old (k * 8) (c * 8) v
+bytes-ended {old} {new} k c {v} i =
+    let place : k * 8 / 8 * 8 ≡ k * 8 = omega arith in
+    let width : k * 8 % 8 + c * 8 - 0 ≡ c * 8 = omega arith in
+    i .done ∙ ap₂ (λ (q w : ℕ). putField old q w (v / 2 ^ 0)) place width ∙ ap (putField old (k * 8) (c * 8)) (omega arith)
+
+pub pushing-long : {old new : List ℕ} {p w all left k : ℕ} → Pushing old p w all new left k → length new ≡ length old
+pushing-long {old} i = ap length (i .done) ∙ length-putField old _ _ _
+
 -- the bytes keep their number
 pub flushed-long : (bs : List ℕ) (p held : ℕ) → length (flushed bs p held) ≡ length bs
 unfolding flushed

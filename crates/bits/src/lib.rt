@@ -98,6 +98,20 @@ fn store(s: &mut [u8], k: usize, b: u8)
     s[k] = b;
 }
 
+// The bytes from byte k on, two of them or three, become the low digits of v: a field of whole bytes.
+pub fn put_bytes(s: &mut [u8], k: usize, count: usize, v: usize)
+    requires { ⌜ (k + count ≤ length (now s)) × (2 ≤ count) × (count ≤ 3) ⌝ }
+    ensures { λ _. ⌜ now (s .exit) ≡ putField (now (s .entry)) (k * 8) (count * 8) v ⌝ }
+{
+    let mut at = k;
+    if 2 < count {
+        store(s, at, ((v >> 16) % 256) as u8);
+        at += 1;
+    }
+    store(s, at, ((v >> 8) % 256) as u8);
+    store(s, at + 1, (v % 256) as u8);
+}
+
 // The field of w bits behind what is written up to bit p, of which the last p % 8 bits are held and stand in no byte yet. Whole bytes are
 // stored, none is read, and what fills no byte is held for the next field.
 pub fn push_field(s: &mut [u8], p: usize, held: usize, w: usize, v: usize) -> usize

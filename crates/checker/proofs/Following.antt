@@ -116,6 +116,10 @@ module _ {table : List (List ℕ)} (held : List ℕ) (r : Range) {es : List Node
     unfolding isIn
     inner-in u = w .marks u ∙ rw (slots-deep u) (or-comm (deep es u) (eqb u 0))
 
+    -- so none is above the slots
+    pub inner-within : (u : ℕ) → T (marked inner u) → u ≤ n
+    inner-within u t = ⊎-elim (λ z. omega arith) (λ d. omega (arith, deep-slot es u d .1)) (test-in es u (subst T (inner-in u) t))
+
     -- and the other marks are what is held and not in it; so they are without a range
     outer-out : (u : ℕ) → T (without r (marked outer) u) → T (without r (heldIn held) u) × ¬ In es u
     unfolding heldIn

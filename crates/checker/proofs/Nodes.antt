@@ -1,21 +1,24 @@
 -- The nodes of a forest in the evidence, and what the test of one node comes to. Assumes nothing.
-use mathlib.Core.Path.{_≡_, _∙_}
+use mathlib.Core.Path.{_≡_, refl, _∙_}
 use mathlib.Core.Bool.{Bool, true, false, not, and-false, and-true}
 use mathlib.Core.Logic.{_≢_}
 use mathlib.Core.List.{List}
-use Prim.Native.Nat.{ℕ, _+_, _≤_, _<_}
+use Prim.Native.Nat.{ℕ, _+_, _^_, _≤_, _<_}
 use native.Mathlib.Omega.{arith}
 use borrow.Author.Tests.{eq-eqb, ne-eqb}
 use lib.Dec.{eqb}
 use lib.ListN.{length}
 use Rattle.lists.specs.Lists.{item, sum}
 use Rattle.lists.proofs.Tests.{eqb-comm}
-use Rattle.bits.proofs.Reading.{fieldAt-lt}
+use Rattle.bits.proofs.Reading.{fieldAt-below}
 use Rattle.graph.specs.declared.Node.{Node}
 use Rattle.graph.specs.Kept.{nodeOf}
 use Rattle.graph.proofs.Keeping.{node-above}
-use Rattle.picture.specs.Layout.{edition1}
-use Rattle.picture.proofs.Starts.{field-second, length-rows, item-row}
+use Rattle.picture.specs.declared.Edition.{Edition}
+use Rattle.picture.specs.Layout.{fieldIn}
+use Rattle.picture.specs.Inner.{Known}
+use Rattle.picture.proofs.Editions.{widths}
+use Rattle.picture.proofs.Starts.{length-rows, item-row}
 use Rattle.evidence.specs.Layout.{nodeWidths}
 use Rattle.evidence.specs.Contents.{nodeAt, forestIn}
 use Rattle.evidence.specs.Checks.{isIn, nodeRight}
@@ -23,19 +26,19 @@ use Rattle.checker.specs.Forests.{nodeFrom}
 
 -- ---- the nodes
 
-module _ (n : ℕ) (ev : List ℕ) (q : ℕ) where
-  pub forest-length : length (forestIn edition1 n ev q) ≡ n
+module _ (e : Edition) (n : ℕ) (ev : List ℕ) (q : ℕ) where
+  pub forest-length : length (forestIn e n ev q) ≡ n
   unfolding forestIn
-  forest-length = length-rows (nodeAt edition1 ev) q (sum (nodeWidths edition1)) n
+  forest-length = length-rows (nodeAt e ev) q (sum (nodeWidths e)) n
 
-  pub node-read : (v : ℕ) → 1 ≤ v → v ≤ n → nodeOf (forestIn edition1 n ev q) v ≡ nodeFrom ev q v
+  pub node-read : (v : ℕ) → 1 ≤ v → v ≤ n → nodeOf (forestIn e n ev q) v ≡ nodeFrom e ev q v
   unfolding forestIn nodeOf nodeFrom
-  node-read v l m = item-row (nodeAt edition1 ev) _ q (sum (nodeWidths edition1)) n v l m
+  node-read v l m = item-row (nodeAt e ev) _ q (sum (nodeWidths e)) n v l m
 
--- a depth is a field of 8 bits
-pub depth-small : (ev : List ℕ) (q v : ℕ) → nodeFrom ev q v .depth < 256
-unfolding nodeFrom nodeAt nodeWidths
-depth-small ev q v = rw field-second (fieldAt-lt ev _ 8)
+-- a depth is a field of as many bits as a location has
+pub depth-small : {e : Edition} → Known e → (ev : List ℕ) (q v : ℕ) → nodeFrom e ev q v .depth < 2 ^ 12
+unfolding nodeFrom nodeAt nodeWidths fieldIn
+depth-small {e} known ev q v = fieldAt-below ev _ (e .«location_bits») 12 refl (widths known .bits-most)
 
 -- ---- what is in a forest
 

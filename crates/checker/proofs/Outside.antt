@@ -9,12 +9,12 @@ use native.Mathlib.Decide.{decLt, ℕ-discrete}
 use lib.Bits.{bitAnd}
 use lib.Count.{trailingZeros}
 use lib.Dec.{T}
-use lib.ListN.{length, getD}
+use lib.ListN.{getD}
 use Rattle.rows.specs.declared.Range.{Range}
-use Rattle.rows.specs.Rows.{marked, inWord, Meet, rowWords}
+use Rattle.rows.specs.Rows.{marked, inWord, Narrow, Meet, rowWords}
 use Rattle.rows.specs.Ranges.{without, LeftOut}
 use Rattle.rows.proofs.InWords.{word-begun, word-here, none-in-zero, both-words, common-words}
-use Rattle.rows.proofs.Marks.{word-marked, marked-word, word-from, from-past}
+use Rattle.rows.proofs.Marks.{word-marked, marked-word, narrow-past}
 use Rattle.rows.proofs.Ranges.{without-both, without-as}
 
 -- the words below i have no such mark
@@ -57,11 +57,11 @@ module _ (r : Range) (row other : List ℕ) where
           apart = λ x. absurd x;
         }
 
-    pub apart-ended : Apart r row other i → length other ≤ i → Meet (marked row) (without r (marked other)) false
-    apart-ended a l =
+    pub apart-ended : Apart r row other i → {words : ℕ} → Narrow words other → words ≤ i → Meet (marked row) (without r (marked other)) false
+    apart-ended a n l =
         record {
           common = λ t. absurd t;
           apart =
               λ _ v s t.
-              by-cases (decLt (v / 64) i) (λ h. a .none v h s t) (λ h. from-past other i l v (word-from i (marked other) v (omega arith) (without-both r (marked other) v t .0)));
+              by-cases (decLt (v / 64) i) (λ h. a .none v h s t) (λ h. narrow-past n l v (omega arith) (without-both r (marked other) v t .0));
         }

@@ -13,12 +13,17 @@ use Rattle.graph.specs.declared.Node.{Node}
 use Rattle.graph.specs.Held.{heldIn}
 use Rattle.rows.specs.Ranges.{without}
 use Rattle.graph.specs.Kept.{ForestKept}
-use Rattle.picture.specs.Layout.{edition1}
+use Rattle.picture.specs.declared.Edition.{Edition}
+use Rattle.picture.specs.declared.Header.{Header}
+use Rattle.picture.specs.Layout.{editionOf}
 use Rattle.picture.specs.Picture.{Picture, pictureOf}
+use Rattle.picture.specs.Inner.{Read}
+use Rattle.picture.proofs.Facts.{read-edition}
 use Rattle.network.specs.Words.{slotCount, isHeld, heldWithout, joins}
 use Rattle.network.specs.Tests.{weighed, servedWeight, candidates}
 use Rattle.network.specs.Rows.{SlotRowsOf}
 use Rattle.network.proofs.Weights.{weighed-block}
+use Rattle.network.proofs.Blocks.{read-slots}
 use Rattle.weigh.proofs.Serving.{now-held, left-held}
 use Rattle.evidence.specs.declared.Stated.{Stated}
 use Rattle.evidence.specs.Layout.{forestAt}
@@ -43,23 +48,35 @@ unfoldable pub statedAt : Picture → ℕ → Stated
 statedAt p zero = record { block = 0; loss = servedWeight p; mark = 0 }
 statedAt p (suc i) = statedOf (weighed p (blockAt p i))
 
-module _ (bs ev : List ℕ) {n : ℕ} (many : slotCount (pictureOf bs) ≡ n) where
+module _ (bs ev : List ℕ) {h : Header} (r : Read bs h) where
   abbrev p : Picture
   p = pictureOf bs
 
+  abbrev e : Edition
+  e = h .edition
+
+  abbrev n : ℕ
+  n = h .slots
+
+  abbrev own : h .edition ≡ editionOf bs
+  own = read-edition bs h r
+
+  abbrev many : slotCount (pictureOf bs) ≡ h .slots
+  many = read-slots bs h r
+
   -- the forest of part k
   abbrev pub forestOf : ℕ → List Node
-  forestOf k = forestIn edition1 n ev (forestAt edition1 n k)
+  forestOf k = forestIn e n ev (forestAt e n k)
 
   -- whether it states what it is to state
   abbrev pub statedRight : ℕ → Bool
-  statedRight k = statedTest n ev k (statedAt p k .loss) (statedAt p k .mark)
+  statedRight k = statedTest e n ev k (statedAt p k .loss) (statedAt p k .mark)
 
   pub part-fault : (k : ℕ) → k ≤ length (candidates p)
       → partFault bs ev k ≡ first (on (not (forestRight p (heldAt p k) (forestOf k))) 14 ∷ on (not (statedRight k)) 15 ∷ [])
   unfolding partFault heldAt statedAt statedTest sectionFault firstForest sectionForest
-  part-fault zero l = rw many
-  part-fault (suc i) l = rw (many, weighing-at p i l, weighed-block p (blockAt p i), eqb·suc-zero i, sub-one (suc i))
+  part-fault zero l = rw (own, many)
+  part-fault (suc i) l = rw (own, many, weighing-at p i l, weighed-block p (blockAt p i), eqb·suc-zero i, sub-one (suc i))
 
   module _ (k : ℕ) (l : k ≤ length (candidates p)) where
     -- the forest breaks a rule
@@ -82,17 +99,17 @@ module _ (bs ev : List ℕ) {n : ℕ} (many : slotCount (pictureOf bs) ≡ n) wh
 
   -- ---- what the code finds of part k
 
-  module _ (form : Form edition1 p ev) where
-    pub formed-block : (i : ℕ) → suc i ≤ length (candidates p) → sectionIn edition1 n ev i .block ≡ blockAt p i
+  module _ (form : Form e p ev) where
+    pub formed-block : (i : ℕ) → suc i ≤ length (candidates p) → sectionIn e n ev i .block ≡ blockAt p i
     formed-block i l = rw (← many) (form .blocks i l)
 
     pub held-found : {row near : List ℕ} → SlotRowsOf p row near → (k : ℕ) → k ≤ length (candidates p)
-        → (v : ℕ) → without (evictedIn (p .blockSize) (sectionIn edition1 n ev (k - 1) .block) k) (heldIn row) v ≡ heldAt p k v
+        → (v : ℕ) → without (evictedIn (p .blockSize) (sectionIn e n ev (k - 1) .block) k) (heldIn row) v ≡ heldAt p k v
     unfolding heldAt evictedIn
     held-found s zero l v = now-held s v
     held-found s (suc i) l v = rw (eqb·suc-zero i, sub-one (suc i), formed-block i l) (left-held s (blockAt p i) v)
 
-  pub stated-found : (k : ℕ) {w m : ℕ} → w ≡ statedAt p k .loss → (1 ≤ k → m ≡ statedAt p k .mark) → statedTest n ev k w m ≡ statedRight k
+  pub stated-found : (k : ℕ) {w m : ℕ} → w ≡ statedAt p k .loss → (1 ≤ k → m ≡ statedAt p k .mark) → statedTest e n ev k w m ≡ statedRight k
   unfolding statedTest
-  stated-found zero e f = rw e
-  stated-found (suc i) e f = rw (e, f (suc-le-suc zero-le))
+  stated-found zero w m = rw w
+  stated-found (suc i) w m = rw (w, m (suc-le-suc zero-le))

@@ -10,6 +10,7 @@ use borrow.Author.Tests.{eq-eqb, ne-eqb}
 use lib.Dec.{eqb}
 use Rattle.lists.specs.Lists.{range, any}
 use Rattle.lists.proofs.Growing.{range-more}
+use Rattle.picture.specs.declared.Edition.{Edition}
 use Rattle.evidence.specs.declared.Head.{Head}
 use Rattle.evidence.specs.declared.Choice.{Choice}
 use Rattle.evidence.specs.Canonical.{noChoice, bettered, bettering, least}
@@ -18,35 +19,35 @@ use Rattle.evidence.specs.Checks.{isNamed, verdictRight}
 use Rattle.evidence.proofs.Least.{least-last}
 use Rattle.checker.specs.Verdict.{costIn, stated}
 
-module _ (n : ℕ) (ev cuts : List ℕ) where
+module _ (e : Edition) (n : ℕ) (ev cuts : List ℕ) where
   -- no section implies a choice yet
-  pub implied-begun : noChoice ≡ least (stated n ev cuts 0)
+  pub implied-begun : noChoice ≡ least (stated e n ev cuts 0)
   unfolding stated range least bettering
   implied-begun = refl
 
   -- one section more
-  stated-more : (i : ℕ) → stated n ev cuts (i + 1) ≡ stated n ev cuts i ++ (costIn n ev cuts i ∷ [])
+  stated-more : (i : ℕ) → stated e n ev cuts (i + 1) ≡ stated e n ev cuts i ++ (costIn e n ev cuts i ∷ [])
   unfolding stated
-  stated-more i = rw (add-one i, range-more 0 i, zero-add i) (map-append (costIn n ev cuts) (range 0 i) (i ∷ []))
+  stated-more i = rw (add-one i, range-more 0 i, zero-add i) (map-append (costIn e n ev cuts) (range 0 i) (i ∷ []))
 
-  pub implied-next : {best : Choice} (i : ℕ) → best ≡ least (stated n ev cuts i) → bettered best (costIn n ev cuts i) ≡ least (stated n ev cuts (i + 1))
-  implied-next i e = rw (e, stated-more i) (sym (least-last (stated n ev cuts i) (costIn n ev cuts i)))
+  pub implied-next : {best : Choice} (i : ℕ) → best ≡ least (stated e n ev cuts i) → bettered best (costIn e n ev cuts i) ≡ least (stated e n ev cuts (i + 1))
+  implied-next i so = rw (so, stated-more i) (sym (least-last (stated e n ev cuts i) (costIn e n ev cuts i)))
 
   -- the verdict of the head, against what all sections imply
-  module _ (count : ℕ) {h : Head} (e : h ≡ headIn ev) {best : Choice} (last : best ≡ least (stated n ev cuts count)) where
-    pub verdict-differs : h .verdict ≢ best .verdict → false ≡ verdictRight ev (stated n ev cuts count)
+  module _ (count : ℕ) {h : Head} (says : h ≡ headIn ev) {best : Choice} (last : best ≡ least (stated e n ev cuts count)) where
+    pub verdict-differs : h .verdict ≢ best .verdict → false ≡ verdictRight ev (stated e n ev cuts count)
     unfolding verdictRight
-    verdict-differs d = rw (← e, ← last, ne-eqb _ _ d)
+    verdict-differs d = rw (← says, ← last, ne-eqb _ _ d)
 
     module _ (v : h .verdict ≡ best .verdict) where
-      pub loss-differs : h .loss ≢ best .loss → false ≡ verdictRight ev (stated n ev cuts count)
+      pub loss-differs : h .loss ≢ best .loss → false ≡ verdictRight ev (stated e n ev cuts count)
       unfolding verdictRight
-      loss-differs d = rw (← e, ← last, eq-eqb _ _ v, ne-eqb _ _ d)
+      loss-differs d = rw (← says, ← last, eq-eqb _ _ v, ne-eqb _ _ d)
 
-      pub none-right : h .loss ≡ best .loss → best .verdict ≡ 0 → eqb (h .block) 0 ≡ verdictRight ev (stated n ev cuts count)
+      pub none-right : h .loss ≡ best .loss → best .verdict ≡ 0 → eqb (h .block) 0 ≡ verdictRight ev (stated e n ev cuts count)
       unfolding verdictRight
-      none-right l z = rw (← e, ← last, eq-eqb _ _ v, eq-eqb _ _ l, eq-eqb _ _ z)
+      none-right l z = rw (← says, ← last, eq-eqb _ _ v, eq-eqb _ _ l, eq-eqb _ _ z)
 
-      pub chosen-right : h .loss ≡ best .loss → best .verdict ≢ 0 → any (isNamed (h .block) best) (stated n ev cuts count) ≡ verdictRight ev (stated n ev cuts count)
+      pub chosen-right : h .loss ≡ best .loss → best .verdict ≢ 0 → any (isNamed (h .block) best) (stated e n ev cuts count) ≡ verdictRight ev (stated e n ev cuts count)
       unfolding verdictRight
-      chosen-right l z = rw (← e, ← last, eq-eqb _ _ v, eq-eqb _ _ l, ne-eqb _ _ z)
+      chosen-right l z = rw (← says, ← last, eq-eqb _ _ v, eq-eqb _ _ l, ne-eqb _ _ z)

@@ -9,7 +9,8 @@ use Rattle.lists.specs.Lists.{range, on, first, sum}
 use Rattle.rows.specs.declared.Range.{Range}
 use Rattle.rows.specs.Ranges.{noRange}
 use Rattle.graph.specs.declared.Node.{Node}
-use Rattle.picture.specs.Layout.{edition1, editionOf, blocksMax}
+use Rattle.picture.specs.declared.Edition.{Edition}
+use Rattle.picture.specs.Layout.{editionOf, blocksMax}
 use Rattle.picture.specs.Picture.{Picture, pictureOf}
 use Rattle.network.specs.Words.{slotCount, isHeld}
 use Rattle.network.specs.Tests.{servedWeight, weighed, candidates}
@@ -21,8 +22,8 @@ use Rattle.evidence.specs.Contents.{headIn, sectionIn, nodeAt, firstForest}
 use Rattle.evidence.specs.Checks.{forestRight, sectionFault}
 
 -- node v of the forest that starts at bit q
-unfoldable pub nodeFrom : List ℕ → ℕ → ℕ → Node
-nodeFrom ev q v = nodeAt edition1 ev (q + (v - 1) * sum (nodeWidths edition1))
+unfoldable pub nodeFrom : Edition → List ℕ → ℕ → ℕ → Node
+nodeFrom e ev q v = nodeAt e ev (q + (v - 1) * sum (nodeWidths e))
 
 -- ---- the parts of evidence: part 0 is the first forest with the served weight, part i + 1 is section i
 
@@ -31,9 +32,9 @@ unfoldable pub evictedIn : ℕ → ℕ → ℕ → Range
 evictedIn size b k = cond (eqb k 0) noRange (blockRange size b)
 
 -- the weight and the mark that part k states: the served weight, or the loss and the mark of a section
-unfoldable pub statedTest : ℕ → List ℕ → ℕ → ℕ → ℕ → Bool
-statedTest n ev k weight mark =
-    let w : Stated = sectionIn edition1 n ev (k - 1) in
+unfoldable pub statedTest : Edition → ℕ → List ℕ → ℕ → ℕ → ℕ → Bool
+statedTest e n ev k weight mark =
+    let w : Stated = sectionIn e n ev (k - 1) in
     cond (eqb k 0) (eqb (headIn ev .served) weight) (eqb (w .loss) weight && eqb (w .mark) mark)
 
 -- 14 and 15 of part k

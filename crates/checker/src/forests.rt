@@ -4,23 +4,21 @@ ghost use mathlib.Core.Bool.{true};
 ghost use mathlib.Core.List.{List};
 ghost use Prim.Native.Nat.{ℕ, _+_, _-_, _*_, _^_, _≤_, _<_};
 ghost use lib.ListN.{length};
-ghost use Rattle.rows.specs.Rows.{marked, linkedIn, Meet, locationsMax, rowWords, slotsMax};
+ghost use Rattle.rows.specs.Rows.{marked, linkedIn, Narrow, Meet, locationsMax, rowWords, slotsMax};
 ghost use Rattle.rows.specs.Ranges.{without};
 ghost use Rattle.graph.specs.Held.{heldIn};
-ghost use Rattle.picture.specs.Layout.{edition1, blocksMax};
+ghost use Rattle.picture.specs.Layout.{blocksMax};
 ghost use Rattle.picture.specs.Picture.{pictureOf};
-ghost use Rattle.picture.specs.Inner.{Read};
+ghost use Rattle.picture.specs.Inner.{Limited, Read};
 ghost use Rattle.network.specs.Tests.{candidates};
 ghost use Rattle.network.specs.Rows.{SlotRowsOf};
 ghost use Rattle.evidence.specs.Contents.{sectionIn, forestIn};
 ghost use Rattle.evidence.specs.Checks.{nodeRight, formRight};
 ghost use Rattle.checker.specs.Forests.{nodeFrom, evictedIn, statedTest, partsFault, CutsOf};
-use evidence::NODE_BITS;
 use graph::Node;
 use network::ENDPOINTS;
 use picture::BLOCKS_MAX;
 use picture::Header;
-use picture::LOCATION_BITS;
 use picture::refusals::FOREST;
 use picture::refusals::WEIGHT;
 use rows::LOCATIONS;
@@ -29,14 +27,16 @@ use rows::WORDS;
 use weigh::Lost;
 
 // Node v of the forest that starts at bit q, read as one field.
-fn node_at(ev: &[u8], q: usize, v: usize) -> Node
-    requires { ⌜ (1 ≤ v) × (v ≤ slotsMax) × (q < 2 ^ 20) ⌝ }
-    ensures { λ r. ⌜ r ≡ nodeFrom (now (ev .entry)) q v ⌝ }
+fn node_at(ev: &[u8], h: Header, q: usize, v: usize) -> Node
+    requires { ⌜ Limited h × (1 ≤ v) × (v ≤ h .slots) × (q < 2 ^ 21) ⌝ }
+    ensures { λ r. ⌜ r ≡ nodeFrom (h .edition) (now (ev .entry)) q v ⌝ }
 {
-    let both = bits::field(ev, q + (v - 1) * NODE_BITS, NODE_BITS);
+    let w = h.edition.location_bits;
+    let size = evidence::node_bits(h.edition);
+    let both = bits::field(ev, q + (v - 1) * size, size);
     Node {
-        parent: both >> LOCATION_BITS,
-        depth: both & ((1 << LOCATION_BITS) - 1),
+        parent: both >> w,
+        depth: both & ((1 << w) - 1),
     }
 }
 
@@ -45,15 +45,17 @@ fn node_right(
     links: &[[u64; WORDS]; LOCATIONS],
     held: &[u64; WORDS],
     ev: &[u8],
+    h: Header,
     q: usize,
-    n: usize,
     v: usize,
     x: Node,
 ) -> bool
-    requires { ⌜ (length (now links) ≡ locationsMax) × (1 ≤ v) × (v ≤ n) × (n ≤ slotsMax) × (q < 2 ^ 20) ⌝ }
-    requires { ⌜ x ≡ nodeFrom (now ev) q v ⌝ }
-    ensures { λ r. ⌜ r ≡ nodeRight (linkedIn (now (links .entry))) (heldIn (now (held .entry))) (forestIn edition1 n (now (ev .entry)) q) v ⌝ }
+    requires { ⌜ (length (now links) ≡ locationsMax) × (1 ≤ v) × (v ≤ h .slots) × Limited h × (q < 2 ^ 21) ⌝ }
+    requires { ⌜ x ≡ nodeFrom (h .edition) (now ev) q v ⌝ }
+    ensures { λ r.
+        ⌜ r ≡ nodeRight (linkedIn (now (links .entry))) (heldIn (now (held .entry))) (forestIn (h .edition) (h .slots) (now (ev .entry)) q) v ⌝ }
 {
+    let n = h.slots;
     let parent = x.parent;
     let depth = x.depth;
     if depth == 0 {
@@ -73,7 +75,7 @@ fn node_right(
     if parent == 0 {
         return depth == 1;
     }
-    let above = node_at(ev, q, parent).depth;
+    let above = node_at(ev, h, q, parent).depth;
     if above == 0 {
         return false;
     }
@@ -81,23 +83,24 @@ fn node_right(
 }
 
 // The slots that are evicted in part k: those of a section's block.
-fn evicted_in(size: usize, ev: &[u8], n: usize, k: usize) -> Range
-    requires { ⌜ (n ≤ slotsMax) × (k ≤ 255) × (1 ≤ k → sectionIn edition1 n (now ev) (k - 1) .block * size + size ≤ slotsMax) ⌝ }
-    ensures { λ r. ⌜ r ≡ evictedIn size (sectionIn edition1 n (now (ev .entry)) (k - 1) .block) k ⌝ }
+fn evicted_in(ev: &[u8], h: Header, k: usize) -> Range
+    requires { ⌜ Limited h × (k ≤ 255)
+        × (1 ≤ k → sectionIn (h .edition) (h .slots) (now ev) (k - 1) .block * h .«block_size» + h .«block_size» ≤ slotsMax) ⌝ }
+    ensures { λ r. ⌜ r ≡ evictedIn (h .«block_size») (sectionIn (h .edition) (h .slots) (now (ev .entry)) (k - 1) .block) k ⌝ }
 {
     if k == 0 {
         return rows::no_range();
     }
-    network::block_range(size, evidence::section_of(ev, n, k - 1).block)
+    network::block_range(h.block_size, evidence::section_of(ev, h, k - 1).block)
 }
 
 // Whether two rows have a mark in common that is not of an evicted slot.
-fn meet_unevicted(row: &[u64; WORDS], other: &[u64; WORDS], evicted: Range) -> bool
-    requires { ⌜ length (now other) ≡ rowWords ⌝ }
+fn meet_unevicted(row: &[u64; WORDS], other: &[u64; WORDS], words: usize, evicted: Range) -> bool
+    requires { ⌜ (length (now other) ≡ rowWords) × Narrow words (now other) ⌝ }
     ensures { λ r. ⌜ Meet (marked (now (row .entry))) (without evicted (marked (now (other .entry)))) r ⌝ }
 {
     let mut i: usize = 0;
-    while i < WORDS {
+    while i < words {
         if rows::leave_out(row[i] & other[i], i * 64, evicted) != 0 {
             return true;
         }
@@ -108,27 +111,27 @@ fn meet_unevicted(row: &[u64; WORDS], other: &[u64; WORDS], evicted: Range) -> b
 
 // The same for a location's row of links and what is held outside the forest. Most rows lead to nothing there, so the first look is the only
 // one.
-fn leads_out(row: &[u64; WORDS], outside: &[u64; WORDS], evicted: Range) -> bool
-    requires { ⌜ length (now outside) ≡ rowWords ⌝ }
+fn leads_out(row: &[u64; WORDS], outside: &[u64; WORDS], words: usize, evicted: Range) -> bool
+    requires { ⌜ (length (now outside) ≡ rowWords) × Narrow words (now outside) ⌝ }
     ensures { λ r. ⌜ Meet (marked (now (row .entry))) (without evicted (marked (now (outside .entry)))) r ⌝ }
 {
-    if rows::meet(*row, *outside) {
-        return meet_unevicted(row, outside, evicted);
+    if rows::meet(*row, *outside, words) {
+        return meet_unevicted(row, outside, words, evicted);
     }
     false
 }
 
 // Whether part k states this weight and mark: the served weight, or the loss and the mark of a section.
-fn stated_right(ev: &[u8], n: usize, k: usize, lost: Lost) -> bool
-    requires { ⌜ (n ≤ slotsMax) × (k ≤ 255) ⌝ }
-    ensures { λ r. ⌜ r ≡ statedTest n (now (ev .entry)) k (lost .weight) (lost .mark) ⌝ }
+fn stated_right(ev: &[u8], h: Header, k: usize, lost: Lost) -> bool
+    requires { ⌜ Limited h × (k ≤ 255) ⌝ }
+    ensures { λ r. ⌜ r ≡ statedTest (h .edition) (h .slots) (now (ev .entry)) k (lost .weight) (lost .mark) ⌝ }
 {
     let weight = lost.weight as usize;
     let mark = lost.mark as usize;
     if k == 0 {
         return evidence::head_of(ev).served == weight;
     }
-    let w = evidence::section_of(ev, n, k - 1);
+    let w = evidence::section_of(ev, h, k - 1);
     if w.loss != weight {
         return false;
     }
@@ -146,14 +149,14 @@ pub fn parts_fault(
     count: usize,
     cuts: &mut [u8; BLOCKS_MAX],
 ) -> u8
-    requires { ⌜ Read (now s) h × ((near : List ℕ) × SlotRowsOf (pictureOf (now s)) held near) × (formRight edition1 (pictureOf (now s)) (now ev) ≡ true) × (count ≡ length (candidates (pictureOf (now s)))) ⌝ }
+    requires { ⌜ Read (now s) h × ((near : List ℕ) × SlotRowsOf (pictureOf (now s)) held near) × (formRight (h .edition) (pictureOf (now s)) (now ev) ≡ true) × (count ≡ length (candidates (pictureOf (now s)))) ⌝ }
     requires { ⌜ length (now cuts) ≡ blocksMax ⌝ }
     ensures { λ r. ⌜ r ≡ partsFault (now (s .entry)) (now (ev .entry)) ⌝ }
     ensures { λ r. ⌜ (r ≡ 0 → CutsOf (pictureOf (now (s .entry))) (now (cuts .exit)) count) ⌝ }
 {
     let n = h.slots;
-    let size = h.block_size;
     let d = h.endpoints;
+    let words = rows::words_for(n);
     let mut links = [[0u64; WORDS]; LOCATIONS];
     let mut services = [[0u64; WORDS]; ENDPOINTS];
     let mut weights = [0u32; ENDPOINTS];
@@ -165,13 +168,13 @@ pub fn parts_fault(
     let mut fault: u8 = 0;
     let mut k: usize = 0;
     'check: while k <= count {
-        let q = evidence::forest_at(n, k);
-        let evicted = evicted_in(size, ev, n, k);
+        let q = evidence::forest_at(h, k);
+        let evicted = evicted_in(ev, h, k);
         let mut slots = none;
         let mut v: usize = 1;
         while v <= n {
-            let x = node_at(ev, q, v);
-            let right = node_right(&links, &held, ev, q, n, v, x);
+            let x = node_at(ev, h, q, v);
+            let right = node_right(&links, &held, ev, h, q, v, x);
             if !right {
                 fault = FOREST;
                 break 'check;
@@ -188,15 +191,15 @@ pub fn parts_fault(
         }
         let mut inside = slots;
         rows::add(&mut inside, 0);
-        let outside = rows::minus(held, inside);
+        let outside = rows::minus(held, inside, words);
         // Where only evicted slots are outside, no link that counts leads there, and none need be looked at.
         let mut a: usize = n + 1;
-        if meet_unevicted(&outside, &outside, evicted) {
+        if meet_unevicted(&outside, &outside, words, evicted) {
             a = 0;
         }
         while a <= n {
             if rows::has(&inside, a) {
-                if leads_out(&links[a], &outside, evicted) {
+                if leads_out(&links[a], &outside, words, evicted) {
                     fault = FOREST;
                     break 'check;
                 }
@@ -209,8 +212,8 @@ pub fn parts_fault(
         } else {
             still = inside;
         }
-        let lost = weigh::lost_between(&services, &weights, protected, d, now, still);
-        let right = stated_right(ev, n, k, lost);
+        let lost = weigh::lost_between(&services, &weights, protected, d, now, still, words);
+        let right = stated_right(ev, h, k, lost);
         if !right {
             fault = WEIGHT;
             break 'check;

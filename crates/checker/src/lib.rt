@@ -31,12 +31,10 @@ fn evidence_fault(s: &[u8], h: Header, ev: &[u8]) -> u8
     requires { ⌜ Read (now s) h ⌝ }
     ensures { λ r. ⌜ r ≡ checkFault (now (s .entry)) (now (ev .entry)) ⌝ }
 {
-    let n = h.slots;
-    let size = h.block_size;
     let rows = network::slot_rows(s, h);
     let held = rows.held;
     let near = rows.near;
-    let f = form::form_of(ev, n, size, n / size, near);
+    let f = form::form_of(ev, h, near);
     let right = f.right;
     let count = f.count;
     if !right {
@@ -47,7 +45,7 @@ fn evidence_fault(s: &[u8], h: Header, ev: &[u8]) -> u8
     if fault != 0 {
         return fault;
     }
-    if verdict::verdict_right(ev, n, count, &cuts) {
+    if verdict::verdict_right(ev, h, count, &cuts) {
         return 0;
     }
     VERDICT
@@ -78,7 +76,6 @@ fn shown_part(s: &[u8], ev: &[u8]) -> Part
     match picture::read(s) {
         Reading::Refused(_) => Part { start: 0, size: 0 },
         Reading::Accepted(h) => {
-            let n = h.slots;
             let fault = evidence_fault(s, h, ev);
             if fault != 0 {
                 return Part { start: 0, size: 0 };
@@ -87,10 +84,10 @@ fn shown_part(s: &[u8], ev: &[u8]) -> Part
             if head.verdict != 1 {
                 return Part { start: 0, size: 0 };
             }
-            let i = verdict::section_named(ev, n, head.count, head.block);
+            let i = verdict::section_named(ev, h, head.count, head.block);
             Part {
-                start: evidence::section_at(n, i) / BYTE_BITS,
-                size: evidence::section_bytes(n),
+                start: evidence::section_at(h, i) / BYTE_BITS,
+                size: evidence::section_bytes(h),
             }
         }
     }

@@ -3,19 +3,20 @@ ghost use mathlib.Core.Path.{_≡_};
 ghost use Prim.Native.Nat.{_≤_, _<_};
 ghost use lib.ListN.{length};
 ghost use Rattle.lists.specs.Lists.{any};
-ghost use Rattle.rows.specs.Rows.{slotsMax};
+ghost use Rattle.picture.specs.Inner.{Limited};
 ghost use Rattle.evidence.specs.Canonical.{least};
 ghost use Rattle.evidence.specs.Checks.{isNamed, verdictRight};
 ghost use Rattle.checker.specs.Verdict.{costIn, stated, sectionNamed};
 use evidence::Choice;
 use network::Cost;
+use picture::Header;
 
 // What section i states, with the number of endpoints that its block cuts.
-fn cost_at(ev: &[u8], n: usize, cuts: &[u8], i: usize) -> Cost
-    requires { ⌜ (n ≤ slotsMax) × (i ≤ 255) × (i < length (now cuts)) ⌝ }
-    ensures { λ r. ⌜ r ≡ costIn n (now (ev .entry)) (now (cuts .entry)) i ⌝ }
+fn cost_at(ev: &[u8], h: Header, cuts: &[u8], i: usize) -> Cost
+    requires { ⌜ Limited h × (i ≤ 255) × (i < length (now cuts)) ⌝ }
+    ensures { λ r. ⌜ r ≡ costIn (h .edition) (h .slots) (now (ev .entry)) (now (cuts .entry)) i ⌝ }
 {
-    let w = evidence::section_of(ev, n, i);
+    let w = evidence::section_of(ev, h, i);
     let number = cuts[i] as usize;
     Cost {
         block: w.block,
@@ -26,9 +27,9 @@ fn cost_at(ev: &[u8], n: usize, cuts: &[u8], i: usize) -> Cost
 }
 
 // The choice that the sections imply: they are gone over in the order of choice.
-fn implied(ev: &[u8], n: usize, count: usize, cuts: &[u8]) -> Choice
-    requires { ⌜ (n ≤ slotsMax) × (count ≤ 255) × (count ≤ length (now cuts)) ⌝ }
-    ensures { λ r. ⌜ r ≡ least (stated n (now (ev .entry)) (now (cuts .entry)) count) ⌝ }
+fn implied(ev: &[u8], h: Header, count: usize, cuts: &[u8]) -> Choice
+    requires { ⌜ Limited h × (count ≤ 255) × (count ≤ length (now cuts)) ⌝ }
+    ensures { λ r. ⌜ r ≡ least (stated (h .edition) (h .slots) (now (ev .entry)) (now (cuts .entry)) count) ⌝ }
 {
     let mut best = Choice {
         verdict: 0,
@@ -38,7 +39,7 @@ fn implied(ev: &[u8], n: usize, count: usize, cuts: &[u8]) -> Choice
     };
     let mut i: usize = 0;
     while i < count {
-        best = evidence::better(best, cost_at(ev, n, cuts, i));
+        best = evidence::better(best, cost_at(ev, h, cuts, i));
         i += 1;
     }
     best
@@ -61,13 +62,13 @@ fn is_named(w: Cost, block: usize, c: Choice) -> bool
 }
 
 // Whether one of the sections is such.
-fn any_named(ev: &[u8], n: usize, count: usize, cuts: &[u8], block: usize, c: Choice) -> bool
-    requires { ⌜ (n ≤ slotsMax) × (count ≤ 255) × (count ≤ length (now cuts)) ⌝ }
-    ensures { λ r. ⌜ r ≡ any (isNamed block c) (stated n (now (ev .entry)) (now (cuts .entry)) count) ⌝ }
+fn any_named(ev: &[u8], h: Header, count: usize, cuts: &[u8], block: usize, c: Choice) -> bool
+    requires { ⌜ Limited h × (count ≤ 255) × (count ≤ length (now cuts)) ⌝ }
+    ensures { λ r. ⌜ r ≡ any (isNamed block c) (stated (h .edition) (h .slots) (now (ev .entry)) (now (cuts .entry)) count) ⌝ }
 {
     let mut i: usize = 0;
     while i < count {
-        if is_named(cost_at(ev, n, cuts, i), block, c) {
+        if is_named(cost_at(ev, h, cuts, i), block, c) {
             return true;
         }
         i += 1;
@@ -76,12 +77,12 @@ fn any_named(ev: &[u8], n: usize, count: usize, cuts: &[u8], block: usize, c: Ch
 }
 
 // Whether the verdict, its block and its loss are as the sections imply; `cuts` has how many endpoints the block of each section cuts.
-pub fn verdict_right(ev: &[u8], n: usize, count: usize, cuts: &[u8]) -> bool
-    requires { ⌜ (n ≤ slotsMax) × (count ≤ 255) × (count ≤ length (now cuts)) ⌝ }
-    ensures { λ r. ⌜ r ≡ verdictRight (now (ev .entry)) (stated n (now (ev .entry)) (now (cuts .entry)) count) ⌝ }
+pub fn verdict_right(ev: &[u8], h: Header, count: usize, cuts: &[u8]) -> bool
+    requires { ⌜ Limited h × (count ≤ 255) × (count ≤ length (now cuts)) ⌝ }
+    ensures { λ r. ⌜ r ≡ verdictRight (now (ev .entry)) (stated (h .edition) (h .slots) (now (ev .entry)) (now (cuts .entry)) count) ⌝ }
 {
     let head = evidence::head_of(ev);
-    let best = implied(ev, n, count, cuts);
+    let best = implied(ev, h, count, cuts);
     if head.verdict != best.verdict {
         return false;
     }
@@ -91,17 +92,17 @@ pub fn verdict_right(ev: &[u8], n: usize, count: usize, cuts: &[u8]) -> bool
     if best.verdict == 0 {
         return head.block == 0;
     }
-    any_named(ev, n, count, cuts, head.block, best)
+    any_named(ev, h, count, cuts, head.block, best)
 }
 
 // The place of the first section that is of block b, or their number where none is.
-pub fn section_named(ev: &[u8], n: usize, count: usize, b: usize) -> usize
-    requires { ⌜ (n ≤ slotsMax) × (count ≤ 255) ⌝ }
-    ensures { λ r. ⌜ r ≡ sectionNamed n (now (ev .entry)) count b ⌝ }
+pub fn section_named(ev: &[u8], h: Header, count: usize, b: usize) -> usize
+    requires { ⌜ Limited h × (count ≤ 255) ⌝ }
+    ensures { λ r. ⌜ r ≡ sectionNamed (h .edition) (h .slots) (now (ev .entry)) count b ⌝ }
 {
     let mut i: usize = 0;
     while i < count {
-        if evidence::section_of(ev, n, i).block == b {
+        if evidence::section_of(ev, h, i).block == b {
             return i;
         }
         i += 1;

@@ -12,7 +12,8 @@ use Rattle.lists.proofs.Growing.{map-append, flat-map-more, filter-hit, filter-
 use Rattle.lists.proofs.Scans.{count-hit}
 use Rattle.packing.specs.Holding.{Put}
 use Rattle.packing.proofs.Putting.{put-none, put-behind, put-same}
-use Rattle.picture.specs.Layout.{edition1}
+use Rattle.picture.specs.declared.Header.{Header}
+use Rattle.picture.specs.Inner.{Known}
 use Rattle.picture.specs.Picture.{Picture}
 use Rattle.network.specs.declared.Cost.{Cost}
 use Rattle.network.specs.Words.{slotCount, blockCount}
@@ -58,34 +59,34 @@ module _ (p : Picture) where
 -- ---- their sections, and the choice among them
 
 -- the sections of some costs stand from byte `at` on, byte q is behind them, and the choice is that among them
-pub record SectionsDone (p : Picture) (n at : ℕ) (ws : List Cost) (buf buf′ : List ℕ) (q : ℕ) (best : Choice) : Type 0 where
-  pub behind : q ≡ at + length ws * sectionBytes edition1 n
-  pub put : Put buf (at * 8) (flat (map (sectionFields edition1 p) ws)) buf′
+pub record SectionsDone (h : Header) (p : Picture) (at : ℕ) (ws : List Cost) (buf buf′ : List ℕ) (q : ℕ) (best : Choice) : Type 0 where
+  pub behind : q ≡ at + length ws * sectionBytes (h .edition) (h .slots)
+  pub put : Put buf (at * 8) (flat (map (sectionFields (h .edition) p) ws)) buf′
   pub choice : best ≡ least ws
 
-module _ (p : Picture) {n : ℕ} (z : slotCount p ≡ n) where
-  pub sections-begun : (at : ℕ) (buf : List ℕ) → SectionsDone p n at (weighedBelow p 0) buf buf at noChoice
+module _ (h : Header) (known : Known (h .edition)) (p : Picture) (z : slotCount p ≡ h .slots) where
+  pub sections-begun : (at : ℕ) (buf : List ℕ) → SectionsDone h p at (weighedBelow p 0) buf buf at noChoice
   unfolding weighedBelow filter range flat least bettering
   sections-begun at buf = record { behind = omega arith; put = put-none buf (at * 8); choice = refl }
 
-  pub sections-hit : {at b q size : ℕ} {ws : List Cost} {buf mid buf′ : List ℕ} {best best′ : Choice} {w : Cost} → SectionsDone p n at ws buf mid q best
-      → SectionDone p b q mid buf′ w → best′ ≡ bettered best w → size ≡ sectionBytes edition1 n
-      → SectionsDone p n at (ws ++ (weighed p b ∷ [])) buf buf′ (q + size) best′
+  pub sections-hit : {at b q size : ℕ} {ws : List Cost} {buf mid buf′ : List ℕ} {best best′ : Choice} {w : Cost} → SectionsDone h p at ws buf mid q best
+      → SectionDone (h .edition) p b q mid buf′ w → best′ ≡ bettered best w → size ≡ sectionBytes (h .edition) (h .slots)
+      → SectionsDone h p at (ws ++ (weighed p b ∷ [])) buf buf′ (q + size) best′
   sections-hit {at} {b} {q} {size} {ws} s d f k =
-      let bits = rw z at (sections-span edition1 p ws) in
+      let bits = rw z at (sections-span (h .edition) p ws) in
       record {
-        behind = rw (length-append, add-one) (omega (arith, s .behind, suc-mul (length ws) (sectionBytes edition1 n)));
-        put = rw flat-map-more (put-behind (at * 8) _ _ (s .put) (put-same (d .put) (omega (arith, s .behind, bits, sections-whole n (length ws))) refl));
+        behind = rw (length-append, add-one) (omega (arith, s .behind, suc-mul (length ws) (sectionBytes (h .edition) (h .slots))));
+        put = rw flat-map-more (put-behind (at * 8) _ _ (s .put) (put-same (d .put) (omega (arith, s .behind, bits, sections-whole known (h .slots) (length ws))) refl));
         choice = f ∙ ap₂ bettered (s .choice) (d .cost) ∙ sym (least-last ws (weighed p b));
       }
 
-  pub sections-ended : {at q : ℕ} {buf buf′ : List ℕ} {best : Choice} → SectionsDone p n at (weighings p) buf buf′ q best → Sectioned p at buf buf′ best
+  pub sections-ended : {at q : ℕ} {buf buf′ : List ℕ} {best : Choice} → SectionsDone h p at (weighings p) buf buf′ q best → Sectioned (h .edition) p at buf buf′ best
   sections-ended s = record { put = s .put; choice = s .choice }
 
   -- where more candidates are to come, the next has room
-  pub room-more : {at q : ℕ} {ws : List Cost} {buf buf′ : List ℕ} {best : Choice} → SectionsDone p n at ws buf buf′ q best
-      → length ws < length (candidates p) → Room n at (length (candidates p)) buf → Room n q 1 buf′
+  pub room-more : {at q : ℕ} {ws : List Cost} {buf buf′ : List ℕ} {best : Choice} → SectionsDone h p at ws buf buf′ q best
+      → length ws < length (candidates p) → Room h at (length (candidates p)) buf → Room h q 1 buf′
   room-more {ws = ws} s l o =
-      let x = sectionBytes edition1 n in
+      let x = sectionBytes (h .edition) (h .slots) in
       let m : suc (length ws) * x ≤ length (candidates p) * x = mul-le-mul-right x l in
       record { fits = omega (arith, s .behind, s .put .long, suc-mul (length ws) x, o .fits); low = omega (arith, s .behind, suc-mul (length ws) x, o .low) }

@@ -5,10 +5,11 @@ use Prim.Native.Nat.{ℕ, suc, _+_, _*_, _≤_, _<_}
 use lib.ListN.{length}
 use Rattle.lists.specs.Lists.{flat}
 use Rattle.packing.specs.Holding.{Put}
-use Rattle.rows.specs.Rows.{marked, locationsMax}
+use Rattle.rows.specs.Rows.{marked, wordsFor, Narrow, locationsMax}
 use Rattle.graph.specs.Steps.{Walked}
+use Rattle.picture.specs.declared.Edition.{Edition}
 use Rattle.picture.specs.declared.Header.{Header}
-use Rattle.picture.specs.Layout.{edition1, endpointsMax}
+use Rattle.picture.specs.Layout.{endpointsMax}
 use Rattle.picture.specs.Picture.{Picture, pictureOf}
 use Rattle.picture.specs.Inner.{Read}
 use Rattle.network.specs.declared.Cost.{Cost}
@@ -39,11 +40,12 @@ pub record WeighRows (bs : List ℕ) (h : Header) (linkTable serviceTable : List
   pub parents : List ℕ
   pub depths : List ℕ
   pub now : Walked (joins (pictureOf bs .links)) (isHeld (pictureOf bs)) (marked reached) parents depths
+  pub narrow : Narrow (wordsFor (h .slots)) reached
 
 -- there is room for c sections from byte q on; the bound keeps a bit's place in the numbers of the code
-pub record Room (n q c : ℕ) (bs : List ℕ) : Type 0 where
-  pub fits : q + c * sectionBytes edition1 n ≤ length bs
-  pub low : q + c * sectionBytes edition1 n ≤ evidenceMax
+pub record Room (h : Header) (q c : ℕ) (bs : List ℕ) : Type 0 where
+  pub fits : q + c * sectionBytes (h .edition) (h .slots) ≤ length bs
+  pub low : q + c * sectionBytes (h .edition) (h .slots) ≤ evidenceMax
 
 -- what a section needs: the rows of some picture, a block, and room
 pub record SectionReady (h : Header) (linkTable serviceTable : List (List ℕ)) (weights guarded reached holding : List ℕ) (b q : ℕ) (buf : List ℕ) : Type 0 where
@@ -52,11 +54,11 @@ pub record SectionReady (h : Header) (linkTable serviceTable : List (List ℕ)) 
   pub block : b < blockCount (pictureOf bytes)
   pub nearby : List ℕ
   pub slots : SlotRowsOf (pictureOf bytes) holding nearby
-  pub room : Room (h .slots) q 1 buf
+  pub room : Room h q 1 buf
 
 -- the section of block b stands from byte q on, and its cost is told
-pub record SectionDone (p : Picture) (b q : ℕ) (buf buf′ : List ℕ) (w : Cost) : Type 0 where
-  pub put : Put buf (q * 8) (sectionFields edition1 p (weighed p b)) buf′
+pub record SectionDone (e : Edition) (p : Picture) (b q : ℕ) (buf buf′ : List ℕ) (w : Cost) : Type 0 where
+  pub put : Put buf (q * 8) (sectionFields e p (weighed p b)) buf′
   pub cost : w ≡ weighed p b
 
 -- what the sections need: the rows of some picture, and room for those of all candidates
@@ -64,11 +66,11 @@ pub record SectionsReady (h : Header) (linkTable serviceTable : List (List ℕ))
   pub bytes : List ℕ
   pub rows : WeighRows bytes h linkTable serviceTable weights guarded reached
   pub slots : SlotRowsOf (pictureOf bytes) holding nearby
-  pub room : Room (h .slots) at (length (candidates (pictureOf bytes))) buf
+  pub room : Room h at (length (candidates (pictureOf bytes))) buf
 
 -- the sections of all candidates stand from byte `at` on, and the choice is the picture's
-pub record Sectioned (p : Picture) (at : ℕ) (buf buf′ : List ℕ) (best : Choice) : Type 0 where
-  pub put : Put buf (at * 8) (flat (map (sectionFields edition1 p) (weighings p))) buf′
+pub record Sectioned (e : Edition) (p : Picture) (at : ℕ) (buf buf′ : List ℕ) (best : Choice) : Type 0 where
+  pub put : Put buf (at * 8) (flat (map (sectionFields e p) (weighings p))) buf′
   pub choice : best ≡ least (weighings p)
 
 -- ---- the evidence

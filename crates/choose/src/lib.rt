@@ -6,14 +6,13 @@ ghost use lib.ListN.{length, drop};
 ghost use Rattle.lists.specs.Lists.{outcome};
 ghost use Rattle.packing.specs.Holding.{Put};
 ghost use Rattle.rows.specs.Rows.{slotsMax};
-ghost use Rattle.picture.specs.Layout.{edition1};
 ghost use Rattle.picture.specs.Inner.{Read};
 ghost use Rattle.picture.specs.Picture.{pictureOf};
 ghost use Rattle.network.specs.Rows.{SlotRowsOf, blocksMarked};
 ghost use Rattle.evidence.specs.Canonical.{headFields, forestFields, evidenceOf};
 ghost use Rattle.evidence.specs.Calls.{lengthFor, chooseFault, chosenBytes};
 ghost use Rattle.choose.specs.Answers.{choosing, choosingNumbers};
-ghost use Rattle.choose.specs.Writing.{nodesIn, arraySection, SectionFits, HeadFits};
+ghost use Rattle.choose.specs.Writing.{nodesIn, arraySection, ForestFits, SectionFits, HeadFits};
 ghost use Rattle.choose.specs.Sections.{Planned, WeighRows, SectionReady, SectionDone, SectionsReady, Sectioned, EvidenceReady};
 use evidence::BLOCK_AT;
 use evidence::BLOCK_BITS;
@@ -25,7 +24,6 @@ use evidence::EDITION_BITS;
 use evidence::HEAD_BYTES;
 use evidence::LOSS_AT;
 use evidence::MARK_BITS;
-use evidence::NODE_BYTES;
 use evidence::SECTION_HEAD_BYTES;
 use evidence::SECTION_LOSS_AT;
 use evidence::SECTION_MARK_AT;
@@ -35,7 +33,7 @@ use evidence::VERDICT_AT;
 use evidence::VERDICT_BITS;
 use network::Cost;
 use network::ENDPOINTS;
-use picture::EDITION;
+use picture::Edition;
 use picture::Header;
 use picture::Reading;
 use picture::refusals::BUFFER;
@@ -57,18 +55,21 @@ pub struct Plan {
     pub length: usize,
 }
 
-// Parent and depth of each slot, a byte each, from byte `at` on. They have one lifetime, so that two fields of one forest can be lent.
-fn put_forest<'a>(buf: &mut [u8], at: usize, n: usize, parent: &'a [u8], depth: &'a [u8])
-    requires { ⌜ (at + n * 2 ≤ length (now buf)) × (n < length (now parent)) × (n < length (now depth)) ⌝ }
+// Parent and depth of each slot, which take whole bytes together, from byte `at` on. They have one lifetime, so that two fields of one forest
+// can be lent.
+fn put_forest<'a>(buf: &mut [u8], at: usize, h: Header, parent: &'a [u16], depth: &'a [u16])
+    requires { ⌜ ForestFits h at (now parent) (now depth) (now buf) ⌝ }
     ensures { λ _.
-        ⌜ Put (now (buf .entry)) (at * 8) (forestFields edition1 (nodesIn (now (parent .entry)) (now (depth .entry)) n)) (now (buf .exit)) ⌝ }
+        ⌜ Put (now (buf .entry)) (at * 8) (forestFields (h .edition) (nodesIn (now (parent .entry)) (now (depth .entry)) (h .slots)))
+        (now (buf .exit)) ⌝ }
 {
+    let size = evidence::node_bits(h.edition) / BYTE_BITS;
     let mut v: usize = 0;
-    while v < n {
-        let q = at + v * NODE_BYTES;
+    while v < h.slots {
+        let q = at + v * size;
         v += 1;
-        buf[q] = parent[v];
-        buf[q + 1] = depth[v];
+        let above = (parent[v] as usize) << h.edition.location_bits;
+        bits::put_bytes(buf, q, size, above | (depth[v] as usize));
     }
 }
 
@@ -99,7 +100,7 @@ pub fn make_plan(s: &[u8], h: Header) -> Plan
     let held = slots.held;
     let near = slots.near;
     let count = count_candidates(size, n / size, near);
-    let length = evidence::evidence_bytes(n, count);
+    let length = evidence::evidence_bytes(h, count);
     Plan {
         held,
         near,
@@ -109,15 +110,23 @@ pub fn make_plan(s: &[u8], h: Header) -> Plan
 }
 
 // A section from byte `at` on: block, loss and mark, then the forest.
-fn put_section<'a>(buf: &mut [u8], at: usize, n: usize, w: Cost, parent: &'a [u8], depth: &'a [u8])
-    requires { ⌜ SectionFits at n w (now parent) (now depth) (now buf) ⌝ }
-    ensures { λ _. ⌜ Put (now (buf .entry)) (at * 8) (arraySection w (now (parent .entry)) (now (depth .entry)) n) (now (buf .exit)) ⌝ }
+fn put_section<'a>(
+    buf: &mut [u8],
+    at: usize,
+    h: Header,
+    w: Cost,
+    parent: &'a [u16],
+    depth: &'a [u16],
+)
+    requires { ⌜ SectionFits h at w (now parent) (now depth) (now buf) ⌝ }
+    ensures { λ _.
+        ⌜ Put (now (buf .entry)) (at * 8) (arraySection (h .edition) w (now (parent .entry)) (now (depth .entry)) (h .slots)) (now (buf .exit)) ⌝ }
 {
     let q = at * BYTE_BITS;
     bits::put_field(buf, q, BLOCK_BITS, w.block);
     bits::put_field(buf, q + SECTION_LOSS_AT, SUM_BITS, w.loss);
     bits::put_field(buf, q + SECTION_MARK_AT, MARK_BITS, w.mark);
-    put_forest(buf, at + SECTION_HEAD_BYTES, n, parent, depth);
+    put_forest(buf, at + SECTION_HEAD_BYTES, h, parent, depth);
 }
 
 // The section of candidate b from byte `at` on, and what giving it up costs.
@@ -137,20 +146,21 @@ fn add_section(
     ensures { λ r.
         ⌜ ((bs near : List ℕ) → WeighRows bs h (now (links .entry)) (now (services .entry)) (now (weights .entry)) protected reached
         → SlotRowsOf (pictureOf bs) held near
-        → SectionDone (pictureOf bs) b at (now (buf .entry)) (now (buf .exit)) r) ⌝ }
+        → SectionDone (h .edition) (pictureOf bs) b at (now (buf .entry)) (now (buf .exit)) r) ⌝ }
 {
     let n = h.slots;
     let d = h.endpoints;
-    let forest = graph::walk(*links, held, network::block_range(h.block_size, b));
+    let words = rows::words_for(n);
+    let forest = graph::walk(*links, held, n, network::block_range(h.block_size, b));
     let still = forest.reached;
-    let lost = weigh::lost_between(services, weights, protected, d, reached, still);
+    let lost = weigh::lost_between(services, weights, protected, d, reached, still, words);
     let w = Cost {
         block: b,
         loss: lost.weight as usize,
         cuts: lost.count as usize,
         mark: lost.mark as usize,
     };
-    put_section(buf, at, n, w, &forest.parent, &forest.depth);
+    put_section(buf, at, h, w, &forest.parent, &forest.depth);
     w
 }
 
@@ -171,11 +181,10 @@ fn put_sections(
     ensures { λ r.
         ⌜ ((bs : List ℕ) → WeighRows bs h (now (links .entry)) (now (services .entry)) (now (weights .entry)) protected reached
         → SlotRowsOf (pictureOf bs) held near
-        → Sectioned (pictureOf bs) at (now (buf .entry)) (now (buf .exit)) r) ⌝ }
+        → Sectioned (h .edition) (pictureOf bs) at (now (buf .entry)) (now (buf .exit)) r) ⌝ }
 {
     let size = h.block_size;
-    let n = h.slots;
-    let blocks = n / size;
+    let blocks = h.slots / size;
     let mut best = Choice {
         verdict: 0,
         block: 0,
@@ -199,7 +208,7 @@ fn put_sections(
                 held,
             );
             best = evidence::better(best, w);
-            q += evidence::section_bytes(n);
+            q += evidence::section_bytes(h);
         }
         b += 1;
     }
@@ -207,11 +216,11 @@ fn put_sections(
 }
 
 // The head of the evidence.
-fn put_head(buf: &mut [u8], c: Choice, count: usize, served: usize)
-    requires { ⌜ HeadFits c count served (now buf) ⌝ }
-    ensures { λ _. ⌜ Put (now (buf .entry)) 0 (headFields edition1 c count served) (now (buf .exit)) ⌝ }
+fn put_head(buf: &mut [u8], e: Edition, c: Choice, count: usize, served: usize)
+    requires { ⌜ HeadFits e c count served (now buf) ⌝ }
+    ensures { λ _. ⌜ Put (now (buf .entry)) 0 (headFields e c count served) (now (buf .exit)) ⌝ }
 {
-    bits::put_field(buf, 0, EDITION_BITS, EDITION);
+    bits::put_field(buf, 0, EDITION_BITS, e.number);
     bits::put_field(buf, VERDICT_AT, VERDICT_BITS, c.verdict);
     bits::put_field(buf, BLOCK_AT, BLOCK_BITS, c.block);
     bits::put_field(buf, COUNT_AT, COUNT_BITS, count);
@@ -228,18 +237,19 @@ pub fn write_evidence(s: &[u8], h: Header, p: Plan, buf: &mut [u8])
     let d = h.endpoints;
     let held = p.held;
     let near = p.near;
+    let words = rows::words_for(n);
     let mut links = [[0u64; WORDS]; LOCATIONS];
     let mut services = [[0u64; WORDS]; ENDPOINTS];
     let mut weights = [0u32; ENDPOINTS];
     network::link_rows(s, h, &mut links);
     network::service_link_rows(s, h, &mut services);
     let protected = network::endpoint_rows(s, h, &mut weights);
-    let forest = graph::walk(links, held, rows::no_range());
+    let forest = graph::walk(links, held, n, rows::no_range());
     let reached = forest.reached;
     let none = [0u64; WORDS];
-    let all = weigh::lost_between(&services, &weights, protected, d, reached, none);
-    put_forest(buf, HEAD_BYTES, n, &forest.parent, &forest.depth);
-    let at = HEAD_BYTES + n * NODE_BYTES;
+    let all = weigh::lost_between(&services, &weights, protected, d, reached, none, words);
+    put_forest(buf, HEAD_BYTES, h, &forest.parent, &forest.depth);
+    let at = evidence::section_at(h, 0) / BYTE_BITS;
     let c = put_sections(
         buf,
         at,
@@ -252,7 +262,7 @@ pub fn write_evidence(s: &[u8], h: Header, p: Plan, buf: &mut [u8])
         held,
         near,
     );
-    put_head(buf, c, p.count, all.weight as usize);
+    put_head(buf, h.edition, c, p.count, all.weight as usize);
 }
 
 // Chooses a block of a picture of any bytes and writes the evidence into the buffer.

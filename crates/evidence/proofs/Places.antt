@@ -27,6 +27,12 @@ unfolding nodeBytes nodeWidths sum
 node-whole Known.first = refl
 node-whole Known.second = refl
 
+-- two, or three
+pub node-bytes : {e : Edition} → Known e → (2 ≤ nodeBytes e) × (nodeBytes e ≤ 3)
+unfolding nodeBytes nodeWidths sum
+node-bytes Known.first = (omega arith, omega arith)
+node-bytes Known.second = (omega arith, omega arith)
+
 module _ {e : Edition} (known : Known e) where
   -- so a forest, a section and so many of them do
   pub forest-whole : (n : ℕ) → forestBits e n ≡ n * nodeBytes e * 8

@@ -57,8 +57,9 @@ pub const SECTION_HEAD_BYTES: usize = SECTION_HEAD_BITS / BYTE_BITS;
 // The longest evidence, in bytes: 55,209. In edition 2 it has sixty blocks of five slots, and with more slots there are fewer blocks.
 const LONGEST_FOREST: usize = BLOCKS_MAX * 5 * (2 * WIDE_LOCATION_BITS) / BYTE_BITS;
 
-pub const EVIDENCE_MAX: usize =
-    HEAD_BYTES + LONGEST_FOREST + BLOCKS_MAX * (SECTION_HEAD_BYTES + LONGEST_FOREST);
+pub const EVIDENCE_MAX: usize = HEAD_BYTES
+    + LONGEST_FOREST
+    + BLOCKS_MAX * (SECTION_HEAD_BYTES + LONGEST_FOREST);
 
 // What the head says.
 pub struct Head {

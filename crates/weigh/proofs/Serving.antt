@@ -12,7 +12,7 @@ use Rattle.rows.specs.Rows.{marked, linkedIn, wordsFor, Narrow, Meet, locations
 use Rattle.rows.proofs.Marks.{narrow-for}
 use Rattle.rows.specs.Ranges.{noRange, inRange, without}
 use Rattle.rows.proofs.Ranges.{none-without}
-use Rattle.graph.specs.Held.{heldIn}
+use Rattle.graph.specs.Held.{heldIn, SlotsOnly}
 use Rattle.graph.specs.Chains.{Reached}
 use Rattle.graph.specs.Steps.{Walked}
 use Rattle.graph.proofs.Walks.{walked-within}
@@ -21,11 +21,12 @@ use Rattle.picture.specs.declared.Header.{Header}
 use Rattle.picture.specs.Picture.{Picture, pictureOf, endpointOf}
 use Rattle.picture.specs.Inner.{Read}
 use Rattle.picture.proofs.Facts.{read-limited}
-use Rattle.network.specs.Words.{slotCount, endpointCount, inBlock, isHeld, heldWithout, joins, weightOf, Named}
+use Rattle.network.specs.Words.{endpointCount, inBlock, isHeld, heldWithout, joins, weightOf, Named}
 use Rattle.network.specs.Tests.{marks, served, cut, sumWhere, servedWeight, weighed}
 use Rattle.network.specs.Rows.{RowsOf, SlotRowsOf, EndpointsOf, blockRange}
 use Rattle.network.proofs.Service.{marked-served, served-marked}
 use Rattle.network.proofs.Weights.{weight-small}
+use Rattle.network.proofs.Blocks.{read-slots}
 use Rattle.weigh.specs.Sums.{Small, Meets, LostBetween, sumBetween, markBetween}
 use Rattle.weigh.specs.declared.Lost.{Lost}
 
@@ -55,10 +56,15 @@ module _ {p : Picture} {holding nearby : List ℕ} (s : SlotRowsOf p holding nea
         → Walked (joins (p .links)) (heldWithout p b) reaches parent depth
     left-walked b e w = walked-over t (left-held b) (rw (← e) at w)
 
-  -- a walk marks slots of the picture alone, whose words are all that need be looked at
-  pub walk-narrow : {linked : ℕ → ℕ → Bool} {row parent depth : List ℕ} (r : Range) → Walked linked (without r (heldIn holding)) (marked row) parent depth
-      → Narrow (wordsFor (slotCount p)) row
-  walk-narrow r w = narrow-for _ _ (s .slots .most) (walked-within r (s .slots) w)
+module _ {bs : List ℕ} {h : Header} (read : Read bs h) {holding nearby : List ℕ} (s : SlotRowsOf (pictureOf bs) holding nearby) where
+  -- the row of what is held marks slots of the header
+  pub slots-only : SlotsOnly (h .slots) holding
+  slots-only = rw (← read-slots bs h read) (s .slots)
+
+  -- and so does a walk, so that the words of these are all that need be looked at
+  pub walk-narrow : {words : ℕ} {linked : ℕ → ℕ → Bool} {row parent depth : List ℕ} (r : Range) → words ≡ wordsFor (h .slots)
+      → Walked linked (without r (heldIn holding)) (marked row) parent depth → Narrow words row
+  walk-narrow r e w = rw e (narrow-for _ _ (slots-only .most) (walked-within r slots-only w))
 
 -- ---- service
 

@@ -6,7 +6,7 @@ use Prim.Native.Nat.{ℕ, zero, suc}
 use lib.Dec.{eqb}
 use lib.ListN.{drop}
 use Rattle.lists.specs.Lists.{outcome}
-use Rattle.picture.specs.Layout.{edition1}
+use Rattle.picture.specs.Layout.{editionFor}
 use Rattle.write.specs.declared.Writing.{Writing}
 use Rattle.write.specs.declared.Writing.the-variants.{Length, Refused}
 use Rattle.write.specs.Columns.{Lists, pictureFrom}
@@ -31,7 +31,7 @@ writingNumbers (Refused k) = k ∷ []
 -- the buffer at exit: the picture in its first bytes and the rest as it was; after a refusal all as it was
 unfoldable pub writtenBytes : Lists → List ℕ → List ℕ
 writtenBytes l buf =
-    let written : List ℕ = pictureBytes edition1 (pictureFrom l) ++ drop (sizeFor l) buf in
+    let written : List ℕ = pictureBytes (editionFor (l .edition)) (pictureFrom l) ++ drop (sizeFor l) buf in
     cond (eqb (writeFault l buf) 0) written buf
 
 -- what the call ensures: its answer, 01's number and value of it, and the buffer at exit

@@ -1,16 +1,19 @@
 -- The lists as they are handed over, column by column, and the picture that they make. Document 02, C-11: "It takes β, κ, the four lists and
--- a buffer; n, D, L and S are the lists' lengths". Assumes nothing.
+-- a buffer; n, D, L and S are the lists' lengths"; C-21: "The writer is told the edition". Assumes nothing.
 use mathlib.Core.Bool.{Bool}
 use mathlib.Core.List.{List, [], _∷_, map, zipWith}
 use mathlib.Core.Path.{_≡_}
 use Prim.Native.Nat.{ℕ, _<_, _^_}
 use lib.ListN.{length, getD}
+use Rattle.picture.specs.declared.Edition.{Edition}
 use Rattle.picture.specs.declared.Header.{Header}
 use Rattle.picture.specs.declared.Link.{Link}
-use Rattle.picture.specs.Picture.{Slot, Endpoint, Picture}
+use Rattle.picture.specs.Layout.{editionOf}
+use Rattle.picture.specs.Picture.{Slot, Endpoint, Picture, pictureOf}
 
--- β, κ, the slots and the endpoints by their columns, and the links and the service links as pairs
+-- the edition's number, β, κ, the slots and the endpoints by their columns, and the links and the service links as pairs
 pub record Lists : Type 0 where
+  pub edition : ℕ
   pub blockSize : ℕ
   pub nearLimit : ℕ
   pub states : List ℕ
@@ -21,13 +24,12 @@ pub record Lists : Type 0 where
   pub serviceLinks : List (List ℕ)
 
 -- the same in the order in which the calls take them
-unfoldable pub handed : ℕ → ℕ → List ℕ → List Bool → List ℕ → List Bool → List (List ℕ) → List (List ℕ) → Lists
-handed b k ss ns ws ps ls vs =
-    record { blockSize = b; nearLimit = k; states = ss; near = ns; weights = ws; protected = ps; links = ls; serviceLinks = vs }
+unfoldable pub handed : ℕ → ℕ → ℕ → List ℕ → List Bool → List ℕ → List Bool → List (List ℕ) → List (List ℕ) → Lists
+handed e b k ss ns ws ps ls vs =
+    record { edition = e; blockSize = b; nearLimit = k; states = ss; near = ns; weights = ws; protected = ps; links = ls; serviceLinks = vs }
 
--- "κ comes as a byte, weights as 16 bits", and a link as two numbers
+-- "weights as 16 bits", and a link as two numbers. κ comes as 16 bits too, and is judged
 pub record Typed (l : Lists) : Type 0 where
-  pub near-limit : l .nearLimit < 2 ^ 8
   pub weight : (i : ℕ) → getD (l .weights) i 0 < 2 ^ 16
   pub link : (i : ℕ) → i < length (l .links) → length (getD (l .links) i []) ≡ 2
   pub service-link : (i : ℕ) → i < length (l .serviceLinks) → length (getD (l .serviceLinks) i []) ≡ 2
@@ -57,9 +59,10 @@ pictureFrom l =
     }
 
 -- "n, D, L and S are the lists' lengths"
-unfoldable pub headerFor : Picture → Header
-headerFor p =
+unfoldable pub headerFor : Edition → Picture → Header
+headerFor e p =
     record {
+      edition = e;
       «block_size» = p .blockSize;
       slots = length (p .slots);
       «near_limit» = p .nearLimit;
@@ -73,9 +76,10 @@ headerFor p =
 unfoldable pub pairOf : Link → List ℕ
 pairOf l = l .from ∷ l .to ∷ []
 
-unfoldable pub listsOf : Picture → Lists
-listsOf p =
+unfoldable pub listsOf : ℕ → Picture → Lists
+listsOf e p =
     record {
+      edition = e;
       blockSize = p .blockSize;
       nearLimit = p .nearLimit;
       states = map (λ s. s .state) (p .slots);
@@ -85,3 +89,7 @@ listsOf p =
       links = map pairOf (p .links);
       serviceLinks = map pairOf (p .serviceLinks);
     }
+
+-- the lists that bytes say, with the number of their edition
+unfoldable pub listsIn : List ℕ → Lists
+listsIn bs = listsOf (editionOf bs .number) (pictureOf bs)

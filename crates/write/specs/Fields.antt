@@ -12,8 +12,8 @@ use Rattle.picture.specs.Answers.{headerValues}
 use Rattle.write.specs.Columns.{headerFor}
 
 -- the header: edition, β, n, κ, D, L, S
-unfoldable pub headerFields : Edition → Header → List Field
-headerFields e h = fieldsOf (headerWidths e) (e .number ∷ headerValues h)
+unfoldable pub headerFields : Header → List Field
+headerFields h = fieldsOf (headerWidths (h .edition)) (headerValues h)
 
 -- a slot: its state, and 1 where it is near
 unfoldable pub slotFields : Slot → List Field
@@ -30,7 +30,7 @@ linkFields widths l = fieldsOf widths (l .from ∷ l .to ∷ [])
 -- the picture: its header, and the rows of its four lists
 unfoldable pub pictureFields : Edition → Picture → List Field
 pictureFields e p =
-    headerFields e (headerFor p)
+    headerFields (headerFor e p)
     ++ (flat (map slotFields (p .slots))
     ++ (flat (map endpointFields (p .endpoints))
     ++ (flat (map (linkFields (linkWidths e)) (p .links)) ++ flat (map (linkFields (serviceLinkWidths e)) (p .serviceLinks)))))

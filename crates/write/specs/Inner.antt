@@ -10,7 +10,8 @@ use Rattle.packing.specs.Packing.{Field}
 use Rattle.packing.specs.Holding.{Fit, Put}
 use Rattle.picture.specs.declared.Header.{Header}
 use Rattle.picture.specs.declared.Link.{Link}
-use Rattle.picture.specs.Layout.{edition1, slotWidths, endpointWidths, stateMax, slotsAt}
+use Rattle.picture.specs.Layout.{editionFor, slotWidths, endpointWidths, stateMax, slotsAt}
+use Rattle.picture.specs.Inner.{Known}
 use Rattle.picture.specs.Faults.{linkFault, serviceLinkFault}
 use Rattle.write.specs.Columns.{Lists, handed, linkFrom, pictureFrom}
 use Rattle.write.specs.Fields.{headerFields, pictureBytes}
@@ -23,6 +24,7 @@ use Rattle.write.specs.Faults.{handedFaults}
 unfoldable pub columnsHeader : Lists → Header
 columnsHeader l =
     record {
+      edition = editionFor (l .edition);
       «block_size» = l .blockSize;
       slots = length (l .states);
       «near_limit» = l .nearLimit;
@@ -31,9 +33,9 @@ columnsHeader l =
       «service_links» = length (l .serviceLinks);
     }
 
--- the lists whose β and κ stand in a header
+-- the lists whose edition, β and κ stand in a header
 unfoldable pub under : Header → List ℕ → List Bool → List ℕ → List Bool → List (List ℕ) → List (List ℕ) → Lists
-under h = handed (h .«block_size») (h .«near_limit»)
+under h = handed (h .edition .number) (h .«block_size») (h .«near_limit»)
 
 -- the fault of a service link, or of a link
 unfoldable pub pairFault : ℕ → ℕ → Bool → Link → ℕ
@@ -80,16 +82,16 @@ pub record LinksFit (at held a b : ℕ) (pairs : List (List ℕ)) (buf : List �
 
 -- of the header
 pub record HeaderFits (h : Header) (buf : List ℕ) : Type 0 where
-  pub room : slotsAt edition1 ≤ length buf * 8
-  pub values : Fit (headerFields edition1 h)
+  pub known : Known (h .edition)
+  pub room : slotsAt (h .edition) ≤ length buf * 8
+  pub values : Fit (headerFields h)
 
 -- lists without a fault, with their header, and room for their picture
 pub record Ready (l : Lists) (h : Header) (buf : List ℕ) : Type 0 where
   pub right : first (handedFaults l) ≡ 0
   pub header : h ≡ columnsHeader l
-  pub near-limit : l .nearLimit < 2 ^ 8
   pub room : sizeFor l ≤ length buf
 
 -- the picture of the lists stands in the front of the buffer
 abbrev pub Written : Lists → List ℕ → List ℕ → Type 0
-Written l buf out = out ≡ pictureBytes edition1 (pictureFrom l) ++ drop (sizeFor l) buf
+Written l buf out = out ≡ pictureBytes (editionFor (l .edition)) (pictureFrom l) ++ drop (sizeFor l) buf

@@ -7,7 +7,8 @@ ghost use lib.ListN.{length, getD};
 ghost use Rattle.lists.specs.Lists.{first, sum, flat};
 ghost use Rattle.packing.specs.Packing.{fieldsOf};
 ghost use Rattle.packing.specs.Holding.{Put};
-ghost use Rattle.picture.specs.Layout.{edition1, slotWidths, endpointWidths};
+ghost use Rattle.picture.specs.Layout.{slotWidths, endpointWidths};
+ghost use Rattle.picture.specs.Inner.{Known};
 ghost use Rattle.picture.specs.Faults.{stateFault};
 ghost use Rattle.write.specs.Columns.{handed, slotFrom, endpointFrom, linkFrom};
 ghost use Rattle.write.specs.Fields.{headerFields, slotFields, endpointFields, linkFields};
@@ -16,31 +17,25 @@ ghost use Rattle.write.specs.Answers.{Writes};
 ghost use Rattle.write.specs.Inner.{columnsHeader, under, pairFault, Follows, PairFits, SlotsFit, EndpointsFit, LinksFit, HeaderFits, Ready, Written};
 use picture::BLOCK_SIZE_AT;
 use picture::BLOCK_SIZE_BITS;
-use picture::EDITION;
 use picture::EDITION_BITS;
 use picture::ENDPOINT_BITS;
-use picture::ENDPOINT_COUNT_AT;
 use picture::ENDPOINT_ROW;
 use picture::ENDPOINTS_BITS;
-use picture::HEADER_BITS;
 use picture::Header;
-use picture::LINK_COUNT_AT;
+use picture::LINK_COUNT_AFTER;
 use picture::LINKS_BITS;
-use picture::LOCATION_BITS;
 use picture::Link;
 use picture::NEAR_BITS;
-use picture::NEAR_LIMIT_AT;
-use picture::NEAR_LIMIT_BITS;
 use picture::PROTECTED_BITS;
-use picture::SERVICE_LINK_COUNT_AT;
+use picture::SERVICE_LINK_COUNT_AFTER;
 use picture::SLOT_COUNT_AT;
 use picture::SLOT_ROW;
-use picture::SLOTS_BITS;
 use picture::STATE_BITS;
 use picture::WEIGHT_BITS;
 use picture::refusals::BLOCKS;
 use picture::refusals::BUFFER;
 use picture::refusals::COUNTS;
+use picture::refusals::EDITION;
 
 // What writing answers.
 pub enum Writing {
@@ -131,7 +126,7 @@ fn lists_fault(
     pairs_fault(service_links, n, d, true)
 }
 
-// The first fault of the lists, in the reader's order, or 0. The header has the lengths of their first columns.
+// The first fault of the lists, in the reader's order, or 0. The header has an edition, and the lengths of their first columns.
 fn handed_fault(
     h: Header,
     states: &[u8],
@@ -141,6 +136,7 @@ fn handed_fault(
     links: &[[u16; 2]],
     service_links: &[[u16; 2]],
 ) -> u8
+    requires { ⌜ Known (h .edition) ⌝ }
     requires { ⌜ h ≡ columnsHeader (under h (now states) (now «is_near») (now weights) (now «is_protected») (now links) (now «service_links»)) ⌝ }
     ensures { λ r.
         ⌜ r ≡ first (handedFaults (under h (now (states .entry)) (now («is_near» .entry)) (now (weights .entry)) (now («is_protected» .entry)) (now (links .entry)) (now («service_links» .entry)))) ⌝ }
@@ -150,6 +146,9 @@ fn handed_fault(
     }
     let sizes = picture::sizes_right(h);
     if !sizes {
+        return BLOCKS;
+    }
+    if 1 << h.edition.location_bits <= h.near_limit {
         return BLOCKS;
     }
     if weights.len() != is_protected.len() {
@@ -264,15 +263,22 @@ fn push_links(
 // The header.
 fn put_header(buf: &mut [u8], h: Header)
     requires { ⌜ HeaderFits h (now buf) ⌝ }
-    ensures { λ _. ⌜ Put (now (buf .entry)) 0 (headerFields edition1 h) (now (buf .exit)) ⌝ }
+    ensures { λ _. ⌜ Put (now (buf .entry)) 0 (headerFields h) (now (buf .exit)) ⌝ }
 {
-    bits::put_field(buf, 0, EDITION_BITS, EDITION);
+    let w = h.edition.location_bits;
+    let at = picture::endpoint_count_at(h.edition);
+    bits::put_field(buf, 0, EDITION_BITS, h.edition.number);
     bits::put_field(buf, BLOCK_SIZE_AT, BLOCK_SIZE_BITS, h.block_size);
-    bits::put_field(buf, SLOT_COUNT_AT, SLOTS_BITS, h.slots);
-    bits::put_field(buf, NEAR_LIMIT_AT, NEAR_LIMIT_BITS, h.near_limit);
-    bits::put_field(buf, ENDPOINT_COUNT_AT, ENDPOINTS_BITS, h.endpoints);
-    bits::put_field(buf, LINK_COUNT_AT, LINKS_BITS, h.links);
-    bits::put_field(buf, SERVICE_LINK_COUNT_AT, LINKS_BITS, h.service_links);
+    bits::put_field(buf, SLOT_COUNT_AT, w, h.slots);
+    bits::put_field(buf, SLOT_COUNT_AT + w, w, h.near_limit);
+    bits::put_field(buf, at, ENDPOINTS_BITS, h.endpoints);
+    bits::put_field(buf, at + LINK_COUNT_AFTER, LINKS_BITS, h.links);
+    bits::put_field(
+        buf,
+        at + SERVICE_LINK_COUNT_AFTER,
+        LINKS_BITS,
+        h.service_links,
+    );
 }
 
 // The picture of lists that keep the rules, over the front of a buffer that is long enough.
@@ -291,24 +297,18 @@ fn put_picture(
         ⌜ Written (under h (now (states .entry)) (now («is_near» .entry)) (now (weights .entry)) (now («is_protected» .entry)) (now (links .entry)) (now («service_links» .entry)))
         (now (buf .entry)) (now (buf .exit)) ⌝ }
 {
+    let w = h.edition.location_bits;
     let at = picture::find_places(h);
     put_header(buf, h);
-    let behind_slots = push_slots(buf, HEADER_BITS, 0, states, is_near);
+    let behind_slots = push_slots(buf, picture::slots_at(h.edition), 0, states, is_near);
     let behind_endpoints = push_endpoints(buf, at.endpoints, behind_slots, weights, is_protected);
-    let behind_links = push_links(
-        buf,
-        at.links,
-        behind_endpoints,
-        links,
-        LOCATION_BITS,
-        LOCATION_BITS,
-    );
+    let behind_links = push_links(buf, at.links, behind_endpoints, links, w, w);
     let held = push_links(
         buf,
         at.service_links,
         behind_links,
         service_links,
-        LOCATION_BITS,
+        w,
         ENDPOINT_BITS,
     );
     let end = at.end;
@@ -316,10 +316,11 @@ fn put_picture(
     bits::push_field(buf, end, held, fill, 0);
 }
 
-// Writes the picture of any lists into the buffer: its length, or the number of the first fault.
+// Writes the picture of any lists in an edition into the buffer: its length, or the number of the first fault.
 pub fn write(
+    edition: u32,
     block_size: u32,
-    near_limit: u8,
+    near_limit: u16,
     states: &[u8],
     is_near: &[bool],
     weights: &[u16],
@@ -329,10 +330,15 @@ pub fn write(
     buf: &mut [u8],
 ) -> Writing
     ensures { λ r.
-        ⌜ Writes (handed «block_size» «near_limit» (now (states .entry)) (now («is_near» .entry)) (now (weights .entry)) (now («is_protected» .entry)) (now (links .entry)) (now («service_links» .entry)))
+        ⌜ Writes (handed edition «block_size» «near_limit» (now (states .entry)) (now («is_near» .entry)) (now (weights .entry)) (now («is_protected» .entry)) (now (links .entry)) (now («service_links» .entry)))
         (now (buf .entry)) r (now (buf .exit)) ⌝ }
 {
+    let e = picture::edition_for(edition as usize);
+    if e.number != edition as usize {
+        return Writing::Refused(EDITION);
+    }
     let h = Header {
+        edition: e,
         block_size: block_size as usize,
         slots: states.len(),
         near_limit: near_limit as usize,

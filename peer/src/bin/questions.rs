@@ -7,10 +7,11 @@ use std::fmt::Display;
 use std::process::exit;
 
 use peer::choice::{Plan, Section};
+use peer::edition::{EDITIONS, MAX_BLOCK_SIZE};
 use peer::faults::{wrong_ends, FAULTS};
 use peer::foreign::{self, GROWTHS};
-use peer::networks::{network, tied, Size, SHAPES};
-use peer::picture::{Picture, MAX_BLOCK_SIZE};
+use peer::networks::{any_edition, network, tied, Size, SHAPES};
+use peer::picture::Picture;
 use peer::random::Random;
 use peer::{check, choose, evict, free, pack, reload, show, weigh};
 use peer::{lists_of, samples, write, Lists};
@@ -70,22 +71,23 @@ fn list<T: Display>(rows: &[T]) -> String {
 
 fn pairs(links: &[[u16; 2]]) -> String {
     let links: Vec<String> = links.iter().map(|link| list(link)).collect();
-    items(&links)
+    list(&links)
 }
 
-fn record(lists: &Lists) -> String {
-    let fields = [
-        ("blockSize", lists.block_size.to_string()),
-        ("nearLimit", lists.near_limit.to_string()),
-        ("states", items(&lists.states)),
-        ("near", items(&lists.near)),
-        ("weights", items(&lists.weights)),
-        ("protected", items(&lists.protected)),
-        ("links", pairs(&lists.links)),
-        ("serviceLinks", pairs(&lists.serving)),
+/// What write is handed, in the order of its arguments.
+fn handed(lists: &Lists) -> String {
+    let arguments = [
+        lists.edition.to_string(),
+        lists.block_size.to_string(),
+        lists.near_limit.to_string(),
+        list(&lists.states),
+        list(&lists.near),
+        list(&lists.weights),
+        list(&lists.protected),
+        pairs(&lists.links),
+        pairs(&lists.serving),
     ];
-    let fields = fields.map(|(name, value)| format!("{name} = {value}"));
-    format!("(record {{ {} }})", fields.join("; "))
+    format!("(handed {})", arguments.join(" "))
 }
 
 fn numbers(bytes: &[u8]) -> Vec<u32> {
@@ -169,7 +171,8 @@ fn ask_wide(table: &mut Table, random: &mut Random) {
     let mut pictures = vec![samples::wide()];
     for _ in 0..WIDE {
         let (block_size, endpoints) = (random.between(9, MAX_BLOCK_SIZE), random.between(2, 4));
-        pictures.push(tied(random, block_size, 2, endpoints));
+        let edition = any_edition(random);
+        pictures.push(tied(random, edition, block_size, 2, endpoints));
     }
     for (round, picture) in pictures.iter().enumerate() {
         ask(table, random, picture, &pack(picture), round);
@@ -187,7 +190,8 @@ fn least_loss(plan: &Plan) -> Vec<&Section> {
 fn small_tie(random: &mut Random) -> (Vec<u8>, Plan) {
     loop {
         let endpoints = random.between(4, 6);
-        let picture = tied(random, 1, 3, endpoints);
+        let edition = any_edition(random);
+        let picture = tied(random, edition, 1, 3, endpoints);
         let growth = *random.pick(&GROWTHS);
         let plan = foreign::plan(random, &picture, growth);
         let Some(chosen) = plan.least() else { continue };
@@ -196,6 +200,34 @@ fn small_tie(random: &mut Random) -> (Vec<u8>, Plan) {
             return (pack(&picture), plan);
         }
     }
+}
+
+/// Case A in the second edition, its header cut off or wrong, and evidence of the one edition for the
+/// other's picture.
+fn ask_second(table: &mut Table, random: &mut Random) {
+    let bytes = samples::SECOND_BYTES;
+    ask(table, random, &samples::second(), &bytes, 0);
+    for length in [6, 7, 8, bytes.len() - 1] {
+        ask_read(table, &bytes[..length]);
+    }
+    // Editions 0 and 3, block size 0, n 321 and n 320 in blocks of five, D 201, and a fill bit.
+    for places in [
+        vec![(0, 0x02)],
+        vec![(0, 0x32)],
+        vec![(0, 0x20)],
+        vec![(0, 0x21), (1, 0x14), (2, 0x10)],
+        vec![(0, 0x25), (1, 0x14), (2, 0x00)],
+        vec![(4, 201)],
+        vec![(33, 0x81)],
+    ] {
+        let mut wrong = bytes;
+        for (place, value) in places {
+            wrong[place] = value;
+        }
+        ask_read(table, &wrong);
+    }
+    ask_check(table, &bytes, &samples::A_EVIDENCE);
+    ask_check(table, &samples::A_BYTES, &samples::SECOND_EVIDENCE);
 }
 
 /// Choose where candidates lose equal weight, and evidence that names each of them. In D they cut
@@ -214,7 +246,7 @@ fn ask_ties(table: &mut Table, random: &mut Random) {
 /// Write with a buffer that has old bytes of chance.
 fn ask_write(table: &mut Table, random: &mut Random, lists: &Lists, room: usize) {
     let mut lent: Vec<u8> = (0..room).map(|_| random.byte()).collect();
-    let question = format!("write {} {}", record(lists), list(&lent));
+    let question = format!("write {} {}", handed(lists), list(&lent));
     let answer = write(lists, &mut lent);
     table.add_buffer(question, answer, &lent);
 }
@@ -253,14 +285,38 @@ fn ask_lists(table: &mut Table, random: &mut Random) {
 
 /// Block sizes and numbers of slots that a picture may have and may not.
 fn ask_blocks(table: &mut Table, random: &mut Random) {
-    for (block_size, slots) in
-        [(1, 0), (1, 60), (1, 61), (3, 4), (8, 8), (9, 9), (15, 15), (15, 16), (16, 16)]
-    {
-        let mut lists = lists_of(&samples::case('M'));
-        lists.block_size = block_size;
-        lists.states.resize(slots, 2);
-        lists.near.resize(slots, false);
-        ask_write(table, random, &lists, 40);
+    for edition in EDITIONS {
+        for (block_size, slots) in
+            [(1, 0), (1, 60), (1, 61), (3, 4), (8, 8), (9, 9), (15, 15), (15, 16), (16, 16)]
+        {
+            let mut lists = lists_of(&Picture { edition, ..samples::case('M') });
+            lists.block_size = block_size;
+            lists.states.resize(slots, 2);
+            lists.near.resize(slots, false);
+            ask_write(table, random, &lists, 50);
+        }
+    }
+}
+
+/// Editions that there are and are not, and near limits that fit their headers and do not.
+fn ask_editions(table: &mut Table, random: &mut Random) {
+    for (edition, near_limit) in [
+        (0, 2),
+        (3, 2),
+        (16 + 1, 2),
+        (u32::MAX, 2),
+        (1, 255),
+        (1, 256),
+        (2, 255),
+        (2, 300),
+        (2, 4095),
+        (2, 4096),
+        (1, u16::MAX),
+        (2, u16::MAX),
+        (3, u16::MAX),
+    ] {
+        let lists = Lists { edition, near_limit, ..lists_of(&samples::case_a()) };
+        ask_write(table, random, &lists, samples::SECOND_BYTES.len());
     }
 }
 
@@ -296,11 +352,13 @@ fn main() {
     let mut table = Table { rows: Vec::new() };
     ask_pictures(&mut table, &mut random);
     ask_wide(&mut table, &mut random);
+    ask_second(&mut table, &mut random);
     let asked = table.rows.len();
     for _ in 0..WRITTEN {
         ask_lists(&mut table, &mut random);
     }
     ask_blocks(&mut table, &mut random);
+    ask_editions(&mut table, &mut random);
     let written = table.rows.len() - asked;
     ask_ties(&mut table, &mut random);
     let ties = table.rows.len() - asked - written;
@@ -308,7 +366,7 @@ fn main() {
     let links = table.rows.len() - asked - written - ties;
     eprintln!(
         "questions: {asked} of {} pictures, {written} of lists, {ties} of ties, {links} of links",
-        ROUNDS * SHAPES.len() + 1 + WIDE
+        ROUNDS * SHAPES.len() + 1 + WIDE + 1
     );
     println!("unfoldable pub table : List Row\ntable =\n    {}\n    ∷ []", table.rows.join("\n    ∷ "));
 }

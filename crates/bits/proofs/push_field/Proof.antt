@@ -7,7 +7,7 @@ use lib.Pow.{shl-exact}
 use lib.Bits.{bitOr, or-shifted}
 use Rattle.bits.proofs.Masks.{mask-made, masked}
 use Rattle.bits.proofs.Writing.{length-putField}
-use Rattle.bits.proofs.Pushing.{Pushing, push-begun, push-next, push-ended}
+use Rattle.bits.proofs.Pushing.{Pushing, push-begun, push-next, push-ended, pushing-long}
 use borrow.Author.Needs.{needs}
 use Rattle.bits.proofs.push_field.Statement.{statement}
 use Rattle.bits.proofs.push_field.Tie as tie
@@ -32,7 +32,7 @@ joined c =
 
 -- the slice keeps its length, and the next byte lies in it
 kept : (c : tie.At-loop Inv-loop μ-loop) → length (c .loop .s) ≡ length (entry c .args .s .now)
-kept c = ap length (c .loop .inv .done) ∙ length-putField (entry c .args .s .now) _ _ _
+kept c = pushing-long (c .loop .inv)
 
 room : (c : tie.At-loop Inv-loop μ-loop) → 8 ≤ c .loop .left → c .loop .k < length (c .loop .s)
 room c l = omega (arith, kept c, c .loop .inv .place, entry c .pre .room)

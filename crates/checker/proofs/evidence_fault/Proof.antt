@@ -4,12 +4,11 @@ use mathlib.Core.Bool.{true}
 use mathlib.Core.List.{List}
 use Prim.Native.Nat.{ℕ}
 use native.Mathlib.Omega.{arith}
-use native.Mathlib.Nat.{div-mul-le-self}
 use borrow.Author.Tests.{not-true, not-false}
 use lib.ListN.{length}
-use Rattle.picture.specs.Layout.{edition1}
+use Rattle.picture.specs.declared.Edition.{Edition}
 use Rattle.picture.specs.Picture.{Picture, pictureOf}
-use Rattle.picture.proofs.Facts.{read-sizes}
+use Rattle.picture.proofs.Facts.{read-limited, read-sizes}
 use Rattle.network.specs.Tests.{candidates}
 use Rattle.network.proofs.Candidates.{marked-candidates}
 use Rattle.network.proofs.Blocks.{read-slots, read-block-size, read-blocks}
@@ -36,23 +35,26 @@ formedAt c = c .before .before .before
 abbrev right : tie.After-verdict-right → tie.Else1
 right c = formedAt (c .before .before)
 
--- the picture and the evidence
+-- the picture, the edition and the evidence
 abbrev shown : tie.After-form-of → Picture
 shown c = pictureOf (start c .args .s .now)
+
+abbrev edition : tie.After-form-of → Edition
+edition c = start c .args .h .edition
 
 abbrev evidence : tie.After-form-of → List ℕ
 evidence c = start c .args .ev .now
 
 -- the blocks that were found are the candidates, and the test of the form was made for them
 found : (c : tie.After-form-of) → let r = c .form-of .result in
-    (r .right ≡ formRight edition1 (shown c) (evidence c)) × (r .count ≡ length (candidates (shown c)))
+    (r .right ≡ formRight (edition c) (shown c) (evidence c)) × (r .count ≡ length (candidates (shown c)))
 found c =
     let r = start c .pre in
     let e = marked-candidates (c .before .before .before .slot-rows .ensures) (read-block-size _ _ r) (sym (read-blocks _ _ r)) in
     let f = rw (e, ← read-slots _ _ r) at (c .form-of .ensures) in
-    form-found (shown c) (evidence c) f
+    form-found (edition c) (shown c) (evidence c) f
 
-formed : (c : tie.Else1) → formRight edition1 (shown (c .before)) (evidence (c .before)) ≡ true
+formed : (c : tie.Else1) → formRight (edition (c .before)) (shown (c .before)) (evidence (c .before)) ≡ true
 formed c = sym (found (c .before) .0) ∙ not-false _ (c .if1 .left)
 
 -- no part has a fault, so the sections state what the candidates weigh
@@ -68,21 +70,17 @@ judged : (c : tie.After-verdict-right) → let f = right c .before in
 judged c =
     let e = right c in
     let p = c .before .before in
-    let r = start (e .before) .pre in
     c .verdict-right .ensures
-    ∙ ap (verdictRight (evidence (e .before))) (stated-weighings _ _ (r .accepted) (formed e) (clean p) (read-slots _ _ r) (found (e .before) .1) (counted p))
+    ∙ ap (verdictRight (evidence (e .before))) (stated-weighings _ _ (start (e .before) .pre) (formed e) (clean p) (found (e .before) .1) (counted p))
 
 slot-rows-requires : tie.Need-slot-rows-requires
 slot-rows-requires c κs = search needs
 
-div-form-of : tie.Need-div-form-of
-div-form-of c = omega (arith, read-sizes _ _ (looked c .before .before .before .pre) .size-some)
-
 form-of-requires : tie.Need-form-of-requires
-form-of-requires c κs = let z = read-sizes _ _ (looked c .before .before .before .pre) in (z .slots-most, z .blocks-most, div-mul-le-self _ _)
+form-of-requires c κs = let r = looked c .before .before .before .pre in (read-limited _ _ r, read-sizes _ _ r)
 
 returns : tie.Need-returns
-returns c = check-form _ _ (start (c .before) .pre .accepted) (sym (found (c .before) .0) ∙ not-true _ (c .if1 .taken))
+returns c = check-form _ _ (start (c .before) .pre) (sym (found (c .before) .0) ∙ not-true _ (c .if1 .taken))
 
 parts-fault-requires : tie.Need-parts-fault-requires
 parts-fault-requires c κs =
@@ -92,7 +90,7 @@ parts-fault-requires c κs =
 returns-2 : tie.Need-returns-2
 returns-2 c =
     let e = c .before .before .before in
-    check-part _ _ (start (e .before) .pre .accepted) (formed e) (c .if2 .taken) (c .before .parts-fault .ensures .0)
+    check-part _ _ (start (e .before) .pre) (formed e) (c .if2 .taken) (c .before .parts-fault .ensures .0)
 
 slice-aggregate-verdict-right : tie.Need-slice-aggregate-verdict-right
 slice-aggregate-verdict-right c = sym (counted (c .before) .many)
@@ -102,20 +100,19 @@ verdict-right-requires c κs =
     let f = formedAt (c .before) .before in
     let r = start f .pre in
     let few = candidates-few _ (r .accepted) in
-    (read-sizes _ _ r .slots-most, omega (arith, found f .1, few), omega (arith, found f .1, few, counted (c .before) .many))
+    (read-limited _ _ r, omega (arith, found f .1, few), omega (arith, found f .1, few, counted (c .before) .many))
 
 returns-3 : tie.Need-returns-3
-returns-3 c = let v = c .before in check-none _ _ (start (right v .before) .pre .accepted) (formed (right v)) (clean (v .before .before)) (sym (judged v) ∙ c .if3 .taken)
+returns-3 c = let v = c .before in check-none _ _ (start (right v .before) .pre) (formed (right v)) (clean (v .before .before)) (sym (judged v) ∙ c .if3 .taken)
 
 returns-4 : tie.Need-returns-4
-returns-4 c = let v = c .before in check-verdict _ _ (start (right v .before) .pre .accepted) (formed (right v)) (clean (v .before .before)) (sym (judged v) ∙ c .if3 .left)
+returns-4 c = let v = c .before in check-verdict _ _ (start (right v .before) .pre) (formed (right v)) (clean (v .before .before)) (sym (judged v) ∙ c .if3 .left)
 
 pub evidence-fault-spec : {M : Type 1} → statement M
 evidence-fault-spec =
     tie.close
     (tie.spec
     slot-rows-requires
-    div-form-of
     form-of-requires
     returns
     parts-fault-requires

@@ -3,7 +3,7 @@ use mathlib.Core.Path.{_≡_, sym, _∙_}
 use native.Mathlib.Omega.{arith}
 use Rattle.picture.specs.Inner.{Read}
 use Rattle.picture.proofs.Answering.{accepted-read, refused-fault}
-use Rattle.picture.proofs.Facts.{read-sizes}
+use Rattle.picture.proofs.Facts.{read-edition, read-limited}
 use Rattle.network.proofs.Blocks.{read-slots}
 use Rattle.evidence.specs.Checks.{checkFault}
 use Rattle.evidence.proofs.Showing.{namedAt, shown-failed, shown-none, shown-part}
@@ -32,7 +32,7 @@ named : (c : tie.After-section-named) → let a = start (read (c .before .before
     c .section-named .result ≡ namedAt (a .s .now) (a .ev .now)
 named c =
     let e = c .before .before .before .before in
-    c .section-named .ensures ∙ rw (c .before .before .before .head-of .ensures) (named-section _ _ (passed e) (read-slots _ _ (accepted (read e))))
+    c .section-named .ensures ∙ rw (c .before .before .before .head-of .ensures) (named-section _ _ (passed e) (accepted (read e)))
 
 read-requires : tie.Need-read-requires
 read-requires c κs = search needs
@@ -58,15 +58,15 @@ returns-2 c = sym (shown-none _ _ (rw (← c .before .before .head-of .ensures) 
 section-named-requires : tie.Need-section-named-requires
 section-named-requires c κs =
     let e = c .before .before .before in
-    (read-sizes _ _ (accepted (read e)) .slots-most, rw (c .before .before .head-of .ensures) (omega (arith, count-few _ _ (passed e))))
+    (read-limited _ _ (accepted (read e)), rw (c .before .before .head-of .ensures) (omega (arith, count-few _ _ (passed e))))
 
 section-at-requires : tie.Need-section-at-requires
 section-at-requires c κs =
     let e = c .before .before .before .before in
-    (read-sizes _ _ (accepted (read e)) .slots-most, omega (arith, named c, named-few _ _ (passed e)))
+    (read-limited _ _ (accepted (read e)), omega (arith, named c, named-few _ _ (passed e)))
 
 section-bytes-requires : tie.Need-section-bytes-requires
-section-bytes-requires c κs = read-sizes _ _ (accepted (read (c .before .before .before .before .before))) .slots-most
+section-bytes-requires c κs = read-limited _ _ (accepted (read (c .before .before .before .before .before)))
 
 returns-3 : tie.Need-returns-3
 returns-3 c =
@@ -77,8 +77,9 @@ returns-4 : tie.Need-returns-4
 returns-4 c =
     let n = c .before .before in
     let e = n .before .before .before .before in
+    let r = accepted (read e) in
     let one = rw (n .before .before .before .head-of .ensures) at (n .before .if2 .left) in
-    rw (c .section-bytes .ensures, c .before .section-at .ensures, named n) (sym (rw (read-slots _ _ (accepted (read e))) at (shown-part _ _ (passed e) one)))
+    rw (c .section-bytes .ensures, c .before .section-at .ensures, named n) (sym (rw (read-slots _ _ r, ← read-edition _ _ r) at (shown-part _ _ (passed e) one)))
 
 pub shown-part-spec : {M : Type 1} → statement M
 shown-part-spec =

@@ -4,7 +4,7 @@ use native.Mathlib.Omega.{arith}
 use native.Mathlib.Nat.{div-mul-le-self}
 use lib.ListN.{length}
 use Rattle.picture.specs.Picture.{pictureOf}
-use Rattle.picture.proofs.Facts.{read-sizes}
+use Rattle.picture.proofs.Facts.{read-edition, read-sizes, read-limited, read-slots-most}
 use Rattle.network.specs.Tests.{candidates}
 use Rattle.network.proofs.Candidates.{marked-candidates}
 use Rattle.network.proofs.Blocks.{read-block-size, read-blocks, read-slots}
@@ -33,12 +33,12 @@ div-count-candidates c = omega (arith, read-sizes _ _ (start c .pre) .size-some)
 count-candidates-requires : tie.Need-count-candidates-requires
 count-candidates-requires c κs =
     let h = start c .args .h in
-    omega (arith, read-sizes _ _ (start c .pre) .slots-most, div-mul-le-self (h .slots) (h .«block_size»))
+    omega (arith, read-slots-most _ _ (start c .pre), div-mul-le-self (h .slots) (h .«block_size»))
 
 evidence-bytes-requires : tie.Need-evidence-bytes-requires
 evidence-bytes-requires c κs =
     let r = start (c .before) .pre in
-    (read-sizes _ _ r .slots-most, omega (arith, counted c, candidates-few _ (r .accepted)))
+    (read-limited _ _ r, omega (arith, counted c, candidates-few _ (r .accepted)))
 
 returns : tie.Need-returns
 unfolding lengthFor
@@ -47,7 +47,7 @@ returns c =
     record {
       slots = k .before .before .before .slot-rows .ensures;
       counted = counted k;
-      long = rw (c .evidence-bytes .ensures, ← read-slots _ _ (start (k .before) .pre), counted k);
+      long = rw (c .evidence-bytes .ensures, ← read-slots _ _ (start (k .before) .pre), ← read-edition _ _ (start (k .before) .pre), counted k);
     }
 
 pub make-plan-spec : {M : Type 1} → statement M

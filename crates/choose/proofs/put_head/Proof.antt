@@ -43,7 +43,7 @@ returns c =
     let b = k .before .before .before .before in
     let a = b .before .before .before .before in
     let p = a .before .before .before .pre in
-    puts-next (omega arith) (a .put-field .ensures) refl
+    puts-next (p .edition) (a .put-field .ensures) refl
     (puts-next (p .verdict) (b .put-field2 .ensures) refl
     (puts-next (p .block) (k .put-field3 .ensures) refl
     (puts-next (p .few) (d .put-field4 .ensures) refl

@@ -7,44 +7,54 @@ use Rattle.packing.specs.Holding.{span}
 use Rattle.packing.proofs.Putting.{put-behind, put-same, puts-none, puts-next}
 use Rattle.evidence.specs.Layout.{sectionHeadWidths}
 use Rattle.evidence.proofs.Places.{section-bytes}
-use Rattle.choose.specs.Writing.{arraySection}
+use Rattle.choose.specs.Writing.{arraySection, SectionFits}
 use borrow.Author.Needs.{needs}
 use Rattle.choose.proofs.put_section.Statement.{statement}
 use Rattle.choose.proofs.put_section.Tie as tie
 
--- the slots, where the first field is written, and where each of the others is, from behind the field before it
-abbrev n : tie.After-put-field-arg → ℕ
-n c = c .before .before .before .before .args .n
+-- the entry, where the first field is written, and where each of the others is, from behind the field before it
+abbrev fits : (c : tie.After-put-field-arg) → let a = c .before .before .before .before .args in SectionFits (a .h) (a .at) (a .w) (a .parent .now) (a .depth .now) (a .buf .now)
+fits c = c .before .before .before .before .pre
 
-abbrev second : tie.After-put-field-arg2 → ℕ
-second c = n (c .before .before .before .before)
+abbrev first : tie.After-put-field-arg2 → tie.After-put-field-arg
+first c = c .before .before .before .before
 
-abbrev third : tie.After-put-field-arg3 → ℕ
-third c = second (c .before .before .before .before)
+abbrev second : tie.After-put-field-arg3 → tie.After-put-field-arg
+second c = first (c .before .before .before .before)
 
 mul-q : tie.Need-mul-q
-mul-q c = search needs
+mul-q c = omega (arith, c .before .before .before .pre .forest)
 
 put-field-requires : tie.Need-put-field-requires
-put-field-requires c κs = omega (arith, section-bytes (n c))
+put-field-requires c κs = omega (arith, fits c .forest)
 
 add-put-field : tie.Need-add-put-field
 add-put-field c = search needs
 
 put-field-requires-2 : tie.Need-put-field-requires-2
-put-field-requires-2 c κs = omega (arith, section-bytes (second c))
+put-field-requires-2 c κs = omega (arith, fits (first c) .forest)
 
 add-put-field-2 : tie.Need-add-put-field-2
 add-put-field-2 c = search needs
 
 put-field-requires-3 : tie.Need-put-field-requires-3
-put-field-requires-3 c κs = omega (arith, section-bytes (third c))
+put-field-requires-3 c κs = omega (arith, fits (second c) .forest)
 
 add-put-forest : tie.Need-add-put-forest
 add-put-forest c = search needs
 
 put-forest-requires : tie.Need-put-forest-requires
-put-forest-requires c κs = omega (arith, section-bytes (third (c .before .before .before .before)))
+put-forest-requires c κs =
+    let f = fits (second (c .before .before .before .before)) .forest in
+    record {
+      limited = f .limited;
+      room = omega (arith, f .room);
+      low = f .low;
+      more-parents = f .more-parents;
+      more-depths = f .more-depths;
+      parent = f .parent;
+      depth = f .depth;
+    }
 
 same-length : tie.Need-same-length
 same-length c = search needs
@@ -60,7 +70,7 @@ returns c =
     put-behind _ _ _
     (puts-next (p .block) (a .put-field .ensures) refl
     (puts-next (p .loss) (b .put-field2 .ensures) refl
-    (puts-next (p .mark) (k .put-field3 .ensures) (omega arith) puts-none)) (omega (arith, section-bytes (n (a .before)))))
+    (puts-next (p .mark) (k .put-field3 .ensures) (omega arith) puts-none)) (omega (arith, p .forest)))
     (put-same (d .put-forest .ensures) (omega arith) refl)
 
 pub put-section-spec : {M : Type 1} → statement M

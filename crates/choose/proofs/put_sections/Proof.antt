@@ -7,7 +7,7 @@ use native.Mathlib.Omega.{arith}
 use Rattle.picture.specs.declared.Header.{Header}
 use Rattle.picture.specs.Picture.{pictureOf}
 use Rattle.picture.specs.Inner.{Read}
-use Rattle.picture.proofs.Facts.{read-sizes}
+use Rattle.picture.proofs.Facts.{read-known, read-sizes, read-limited}
 use Rattle.network.specs.Words.{blockCount}
 use Rattle.network.specs.Tests.{isCandidate}
 use Rattle.network.specs.Rows.{SlotRowsOf}
@@ -26,18 +26,18 @@ record Loop (h : Header) (links services : List (List ℕ)) (weights protected r
     (best : Choice) (q b : ℕ) : Type 0 where
   pub within : b ≤ blocks
   pub done : (bs : List ℕ) → WeighRows bs h links services weights protected reached → SlotRowsOf (pictureOf bs) held near
-      → SectionsDone (pictureOf bs) (h .slots) at (weighedBelow (pictureOf bs) b) buf₀ buf q best
+      → SectionsDone h (pictureOf bs) at (weighedBelow (pictureOf bs) b) buf₀ buf q best
 
 abbrev Inv-loop : tie.InvT-loop
-Inv-loop buf₀ at h links services weights protected reached held near size n blocks best₀ q₀ b₀ buf best q b =
+Inv-loop buf₀ at h links services weights protected reached held near size blocks best₀ q₀ b₀ buf best q b =
     Loop h links services weights protected reached held near at blocks buf₀ buf best q b
 
 abbrev μ-loop : tie.MeasureT-loop
-μ-loop buf₀ at h links services weights protected reached held near size n blocks best₀ q₀ b₀ buf best q b = blocks - b
+μ-loop buf₀ at h links services weights protected reached held near size blocks best₀ q₀ b₀ buf best q b = blocks - b
 
 -- where the function begins, and where the block at hand is found to be a candidate
 abbrev start : tie.In-loop Inv-loop μ-loop → tie.Start Inv-loop μ-loop
-start c = c .before .before .before
+start c = c .before .before .before .before
 
 abbrev hit : tie.After-better Inv-loop μ-loop → tie.Then1 Inv-loop μ-loop
 hit c = c .before .before .before .before .before
@@ -52,18 +52,18 @@ candidate : (c : tie.After-is-candidate Inv-loop μ-loop) (bs : List ℕ) → le
 candidate c bs r s = c .is-candidate .ensures ∙ marked-candidate s (read-block-size _ _ r) _
 
 -- a candidate has room for its section
-room : (c : tie.Then1 Inv-loop μ-loop) → let l = c .before .before .before in Room (start l .args .h .slots) (l .before .loop .q) 1 (l .before .loop .buf)
+room : (c : tie.Then1 Inv-loop μ-loop) → let l = c .before .before .before in Room (start l .args .h) (l .before .loop .q) 1 (l .before .loop .buf)
 room c =
     let l = c .before .before .before in
     let p = start l .pre in
     let fewer = below-fewer _ _ (sym (candidate (c .before) _ (p .rows .read) (p .slots)) ∙ c .if1 .taken) (below l) in
-    room-more _ (read-slots _ _ (p .rows .read)) (l .before .loop .inv .done _ (p .rows) (p .slots)) fewer (p .room)
+    room-more _ (read-known _ _ (p .rows .read)) _ (read-slots _ _ (p .rows .read)) (l .before .loop .inv .done _ (p .rows) (p .slots)) fewer (p .room)
 
 div-blocks : tie.Need-div-blocks Inv-loop μ-loop
-div-blocks c = omega (arith, read-sizes _ _ (c .before .pre .rows .read) .size-some)
+div-blocks c = omega (arith, read-sizes _ _ (c .before .before .pre .rows .read) .size-some)
 
 loop-holds : tie.Need-loop-holds Inv-loop μ-loop
-loop-holds c = record { within = omega arith; done = λ bs r s. sections-begun (pictureOf bs) (read-slots _ _ (r .read)) _ _ }
+loop-holds c = record { within = omega arith; done = λ bs r s. sections-begun _ (read-known _ _ (r .read)) (pictureOf bs) (read-slots _ _ (r .read)) _ _ }
 
 is-candidate-requires : tie.Need-is-candidate-requires Inv-loop μ-loop
 is-candidate-requires c κs = read-block _ _ (start (c .before) .pre .rows .read) _ (below (c .before))
@@ -86,7 +86,7 @@ better-requires : tie.Need-better-requires Inv-loop μ-loop
 better-requires c κs = search needs
 
 section-bytes-requires : tie.Need-section-bytes-requires Inv-loop μ-loop
-section-bytes-requires c κs = read-sizes _ _ (start (hit c .before .before .before) .pre .rows .read) .slots-most
+section-bytes-requires c κs = read-limited _ _ (start (hit c .before .before .before) .pre .rows .read)
 
 add-q : tie.Need-add-q Inv-loop μ-loop
 add-q c = omega (arith, c .section-bytes .ensures, room (hit (c .before)) .low)
@@ -109,19 +109,19 @@ loop-again c =
           ⊎-elim
           (λ w.
           rw (w .7, w .8, w .9, below-hit p (l .b) (k ∙ w .0 .taken))
-          (sections-hit p n (l .inv .done bs r s) (w .2 .ensures bs _ r s) (w .5 .ensures) (w .6 .ensures)))
+          (sections-hit _ (read-known _ _ (r .read)) p n (l .inv .done bs r s) (w .2 .ensures bs _ r s) (w .5 .ensures) (w .6 .ensures)))
           (λ w. rw (w .1, w .2, w .3, below-miss p (l .b) (k ∙ w .0 .left)) (l .inv .done bs r s))
           (c .if1 .came);
     }
 
 same-length : tie.Need-same-length Inv-loop μ-loop
-same-length c = let p = c .before .before .before .pre in c .before .loop .inv .done _ (p .rows) (p .slots) .put .long
+same-length c = let p = c .before .before .before .before .pre in c .before .loop .inv .done _ (p .rows) (p .slots) .put .long
 
 returns : tie.Need-returns Inv-loop μ-loop
 returns c = λ bs r s.
     let l = c .before .loop in
     let all : l .b ≡ blockCount (pictureOf bs) = omega (arith, l .inv .within, read-blocks _ _ (r .read)) in
-    sections-ended (pictureOf bs) (read-slots _ _ (r .read)) (rw (all, below-all) at (l .inv .done bs r s))
+    sections-ended _ (read-known _ _ (r .read)) (pictureOf bs) (read-slots _ _ (r .read)) (rw (all, below-all) at (l .inv .done bs r s))
 
 pub put-sections-spec : {M : Type 1} → statement M
 put-sections-spec =

@@ -1,24 +1,26 @@
 -- `write_evidence` writes the first forest, the sections and then the head. Assumes nothing.
 use mathlib.Core.Path.{_≡_, refl, sym}
 use mathlib.Core.List.{List}
-use Prim.Native.Nat.{ℕ, suc, _≤_}
+use Prim.Native.Nat.{ℕ, suc, _/_, _≤_}
 use native.Mathlib.Omega.{arith}
 use lib.ListN.{length}
-use Rattle.rows.specs.Rows.{locationsMax, rowWords}
+use Rattle.rows.specs.Rows.{Narrow, locationsMax, rowWords}
 use Rattle.packing.proofs.Putting.{put-same}
 use Rattle.picture.specs.Layout.{endpointsMax}
 use Rattle.picture.specs.Picture.{pictureOf}
-use Rattle.picture.proofs.Facts.{read-limited}
+use Rattle.picture.proofs.Facts.{read-known, read-limited}
 use Rattle.network.specs.Tests.{servedWeight}
-use Rattle.rows.proofs.Marks.{clear}
+use Rattle.rows.proofs.Marks.{clear, clear-narrow}
 use Rattle.network.proofs.Making.{clear-made}
 use Rattle.network.proofs.Named.{accepted-named}
 use Rattle.network.proofs.Blocks.{read-endpoints}
-use Rattle.weigh.proofs.Serving.{now-walked, sums-ready, walk-meets, served-met}
+use Rattle.weigh.proofs.Serving.{now-walked, slots-only, walk-narrow, sums-ready, walk-meets, served-met}
 use Rattle.evidence.specs.Calls.{lengthFor}
 use Rattle.evidence.proofs.Places.{head-whole}
-use Rattle.evidence.proofs.Lengths.{sectionsStart}
+use Rattle.evidence.proofs.Lengths.{sectionsStart, sections-end}
 use Rattle.choose.specs.Sections.{WeighRows, Sectioned}
+use Rattle.choose.proofs.Nodes.{walked-nodes}
+use Rattle.choose.proofs.Sections.{forest-ready}
 use Rattle.choose.proofs.Evidence.{length-for, evidence-room, head-fits, evidence-written}
 use borrow.Author.Needs.{needs}
 use Rattle.choose.proofs.write_evidence.Statement.{statement}
@@ -29,8 +31,11 @@ use Rattle.choose.proofs.write_evidence.Tie as tie
 abbrev linked : tie.After-walk → tie.After-link-rows
 linked c = c .before .before .before .before .before .before
 
+abbrev worded : tie.After-walk → tie.After-words-for
+worded c = linked c .before .before
+
 abbrev start : tie.After-walk → tie.Start
-start c = linked c .before .before .before .before .before .before
+start c = worded c .before .before .before .before .before
 
 abbrev walked : tie.After-lost-between → tie.After-walk
 walked c = c .before .before .before .before
@@ -39,7 +44,7 @@ abbrev lost : tie.After-put-forest → tie.After-lost-between
 lost c = c .before .before .before .before .before .before .before
 
 abbrev planted : tie.After-put-sections → tie.After-put-forest
-planted c = c .before .before .before .before .before .before .before
+planted c = c .before .before .before .before .before .before .before .before
 
 -- ---- what is known there
 
@@ -65,6 +70,7 @@ rows c =
       parents = c .walk .result .parent;
       depths = c .walk .result .depth;
       now = now-walked (p .planned .slots) links (rw (c .before .no-range .ensures) at (c .walk .ensures));
+      narrow = walk-narrow (p .read) (p .planned .slots) _ refl (c .walk .ensures);
     }
 
 -- all that is served
@@ -75,18 +81,29 @@ served c =
     let count = read-endpoints _ _ (r .read) in
     served-met (r .ends) count (walk-meets named (r .services) (r .now)) (clear rowWords) (c .lost-between .ensures)
 
+-- they start behind the first forest
+sections-start : (c : tie.After-section-at) → let a = start (walked (lost (c .before .before .before))) .args in c .section-at .result / 8 ≡ sectionsStart (a .h .edition) (a .h .slots)
+sections-start c =
+    let w = walked (lost (c .before .before .before)) in
+    omega (arith, c .section-at .ensures, sections-end (read-known _ _ (start w .pre .read)) (start w .args .h .slots) 0)
+
 -- the sections behind the first forest
 sectioned : (c : tie.After-put-sections) → let w = walked (lost (planted c)) in let s = c .put-sections in
-    Sectioned (pictureOf (bytes w)) (sectionsStart (start w .args .h .slots)) (planted c .put-forest .last .0) (s .last .0) (s .result)
-sectioned c = let w = walked (lost (planted c)) in c .put-sections .ensures _ (rows w) (start w .pre .planned .slots)
+    Sectioned (start w .args .h .edition) (pictureOf (bytes w)) (sectionsStart (start w .args .h .edition) (start w .args .h .slots)) (planted c .put-forest .last .0) (s .last .0) (s .result)
+sectioned c =
+    let w = walked (lost (planted c)) in
+    rw (sections-start (c .before .before .before .before .before)) at (c .put-sections .ensures _ (rows w) (start w .pre .planned .slots))
 
 -- ---- the answers
 
+words-for-requires : tie.Need-words-for-requires
+words-for-requires c κs = search needs
+
 link-rows-requires : tie.Need-link-rows-requires
-link-rows-requires c κs = (c .before .before .before .before .before .pre .read, clear-made locationsMax)
+link-rows-requires c κs = (c .before .before .before .before .before .before .pre .read, clear-made locationsMax)
 
 service-link-rows-requires : tie.Need-service-link-rows-requires
-service-link-rows-requires c κs = (c .before .before .before .before .before .before .before .pre .read, clear-made (suc endpointsMax))
+service-link-rows-requires c κs = (c .before .before .before .before .before .before .before .before .pre .read, clear-made (suc endpointsMax))
 
 endpoint-rows-requires : tie.Need-endpoint-rows-requires
 endpoint-rows-requires c κs = search needs
@@ -95,10 +112,14 @@ no-range-requires : tie.Need-no-range-requires
 no-range-requires c κs = search needs
 
 walk-requires : tie.Need-walk-requires
-walk-requires c κs = search needs
+walk-requires c κs = let p = c .before .before .before .before .before .before .before .before .before .before .before .before .pre in slots-only (p .read) (p .planned .slots)
 
 lost-between-requires : tie.Need-lost-between-requires
-lost-between-requires c κs = let r = rows (c .before .before .before) in sums-ready _ _ (r .read) (r .services) (r .ends)
+lost-between-requires c κs =
+    let w = c .before .before .before in
+    let r = rows w in
+    let narrow : Narrow (worded w .words-for .result) (w .walk .result .reached) = rw (worded w .words-for .ensures) (r .narrow) in
+    sums-ready _ _ (r .read) (r .services) (r .ends) narrow (clear-narrow rowWords (narrow .most))
 
 put-forest-requires : tie.Need-put-forest-requires
 put-forest-requires c κs =
@@ -106,20 +127,18 @@ put-forest-requires c κs =
     let r = start w .pre .read in
     let p : length (w .walk .result .parent) ≡ locationsMax = search needs in
     let d : length (w .walk .result .depth) ≡ locationsMax = search needs in
-    omega (arith, fits w, length-for r, read-limited _ _ r .slots)
+    forest-ready (rows w) _ (omega (arith, fits w, length-for r)) (omega arith) p d (walked-nodes _ _ r (rows w .now))
 
-mul-at : tie.Need-mul-at
-mul-at c = omega (arith, read-limited _ _ (start (walked (lost (c .before .before))) .pre .read) .slots)
-
-add-at : tie.Need-add-at
-add-at c = omega (arith, read-limited _ _ (start (walked (lost (c .before .before))) .pre .read) .slots)
+section-at-requires : tie.Need-section-at-requires
+section-at-requires c κs = (read-limited _ _ (start (walked (lost (c .before .before))) .pre .read), omega arith)
 
 put-sections-requires : tie.Need-put-sections-requires
 put-sections-requires c κs =
-    let f = c .before .before .before .before .before .before in
+    let at = c .before .before .before .before in
+    let f = at .before .before .before in
     let w = walked (lost f) in
     let p = start w .pre in
-    record { bytes = _; rows = rows w; slots = p .planned .slots; room = evidence-room (p .read) (omega (arith, fits w, f .put-forest .ensures .long)) }
+    record { bytes = _; rows = rows w; slots = p .planned .slots; room = rw (sections-start at) (evidence-room (p .read) (omega (arith, fits w, f .put-forest .ensures .long))) }
 
 cast-put-head : tie.Need-cast-put-head
 cast-put-head c = search needs
@@ -142,12 +161,13 @@ returns c =
     let w = walked l in
     let first = put-same (planted k .put-forest .ensures) (sym head-whole) refl in
     evidence-written (rows w) first (sectioned k) (c .before .before .put-head .ensures) (start w .pre .planned .counted) (served l) (fits w)
-    (λ j. omega (arith, linked w .before .before .before .before .slice-known .given j)) (λ j. omega (arith, c .slice-known4 .given j))
+    (λ j. omega (arith, worded w .before .before .before .slice-known .given j)) (λ j. omega (arith, c .slice-known4 .given j))
 
 pub write-evidence-spec : {M : Type 1} → statement M
 write-evidence-spec =
     tie.close
     (tie.spec
+    words-for-requires
     link-rows-requires
     service-link-rows-requires
     endpoint-rows-requires
@@ -155,8 +175,7 @@ write-evidence-spec =
     walk-requires
     lost-between-requires
     put-forest-requires
-    mul-at
-    add-at
+    section-at-requires
     put-sections-requires
     cast-put-head
     put-head-requires

@@ -1,18 +1,17 @@
 -- `weigh_block` weighs a block of an accepted picture. Assumes nothing.
 use Prim.Native.Nat.{ℕ, suc}
 use Rattle.rows.specs.Rows.{marked, Narrow, locationsMax, rowWords}
-use Rattle.graph.specs.Held.{SlotsOnly}
 use Rattle.graph.specs.Steps.{Walked}
 use Rattle.picture.specs.Layout.{endpointsMax}
 use Rattle.picture.specs.Picture.{Picture, pictureOf}
 use Rattle.network.specs.Words.{isHeld, heldWithout, joins}
 use Rattle.network.specs.Rows.{RowsOf}
 use Rattle.network.proofs.Named.{accepted-named}
-use Rattle.network.proofs.Blocks.{read-block-size, read-slots, read-endpoints, read-block}
+use Rattle.network.proofs.Blocks.{read-block-size, read-endpoints, read-block}
 use Rattle.network.proofs.Making.{clear-made}
 use Rattle.rows.proofs.Marks.{clear, clear-narrow}
 use Rattle.weigh.specs.Weighing.{weightsOf}
-use Rattle.weigh.proofs.Serving.{now-walked, left-walked, walk-narrow, sums-ready, walk-meets, served-met, loss-met, mark-met}
+use Rattle.weigh.proofs.Serving.{now-walked, left-walked, slots-only, walk-narrow, sums-ready, walk-meets, served-met, loss-met, mark-met}
 use borrow.Author.Needs.{needs}
 use Rattle.weigh.proofs.weigh_block.Statement.{statement}
 use Rattle.weigh.proofs.weigh_block.Tie as tie
@@ -64,18 +63,14 @@ slot-rows-requires c κs = search needs
 no-range-requires : tie.Need-no-range-requires
 no-range-requires c κs = search needs
 
--- the row of what is held marks slots of the header
-slots-only : (c : tie.After-slot-rows) → SlotsOnly (entry c .args .h .slots) (c .slot-rows .result .held)
-slots-only c = rw (← read-slots _ _ (entry c .pre .0)) (c .slot-rows .ensures .slots)
-
 walk-requires : tie.Need-walk-requires
-walk-requires c κs = slots-only (c .before .before)
+walk-requires c κs = let s = c .before .before in slots-only (entry s .pre .0) (s .slot-rows .ensures)
 
 block-range-requires : tie.Need-block-range-requires
 block-range-requires c κs = let s = start c in read-block _ _ (s .pre .0) _ (s .pre .1)
 
 walk-requires-2 : tie.Need-walk-requires-2
-walk-requires-2 c κs = slots-only (slotted (c .before))
+walk-requires-2 c κs = let s = slotted (c .before) in slots-only (entry s .pre .0) (s .slot-rows .ensures)
 
 -- both walks are walks over the picture
 links : (c : tie.After-walk) → RowsOf locationsMax (joins (shown c .links)) (linked (serving (weighted (slotted c))) .link-rows .last .1 .1 .0)
@@ -93,12 +88,12 @@ left c =
 
 -- what the walks reach is in the words that the header's slots take
 narrow : (c : tie.After-walk) → Narrow (worded (slotted c) .words-for .result) (c .walk .result .reached)
-narrow c = rw (worded (slotted c) .words-for .ensures, ← read-slots _ _ (start c .pre .0)) (walk-narrow (slotted c .slot-rows .ensures) _ (c .walk .ensures))
+narrow c = walk-narrow (start c .pre .0) (slotted c .slot-rows .ensures) _ (worded (slotted c) .words-for .ensures) (c .walk .ensures)
 
 narrow-left : (c : tie.After-walk2) → Narrow (worded (slotted (c .before .before)) .words-for .result) (c .walk2 .result .reached)
 narrow-left c =
     let w = c .before .before in
-    rw (worded (slotted w) .words-for .ensures, ← read-slots _ _ (start w .pre .0)) (walk-narrow (slotted w .slot-rows .ensures) _ (c .walk2 .ensures))
+    walk-narrow (start w .pre .0) (slotted w .slot-rows .ensures) _ (worded (slotted w) .words-for .ensures) (c .walk2 .ensures)
 
 lost-between-requires : tie.Need-lost-between-requires
 lost-between-requires c κs =

@@ -1,23 +1,20 @@
 //! Acts one after another, and reloads at the edge of the near limit.
 
-use peer::networks::{network, Size, SHAPES};
 use peer::pack;
 use peer::picture::{Picture, State};
 use peer::random::Random;
 
 use super::harness::{Comparison, ACTS};
-use super::{choose_and_check, no_blocks};
+use super::{any_network, choose_and_check, no_blocks};
 
 /// Every block reloaded with the near limit just under, at and just over what is then held.
 pub fn near_limits(comparison: &mut Comparison, random: &mut Random, count: usize) {
     for round in 0..2 * count {
-        let size = if round % 32 == 0 { Size::any(random) } else { Size::small(random) };
-        let shape = *random.pick(&SHAPES);
-        let mut picture = network(random, shape, size);
+        let mut picture = any_network(random, round, 96);
         for block in 0..picture.block_count() {
             let then = held_near_after_reload(&picture, block);
             for limit in [then.saturating_sub(1), then, then + 1] {
-                picture.near_limit = limit as u8;
+                picture.near_limit = limit as u16;
                 comparison.act(&ACTS[1], &mut pack(&picture), block as u32);
             }
         }
@@ -37,9 +34,7 @@ fn held_near_after_reload(picture: &Picture, block: usize) -> usize {
 /// Many acts on one picture, with choose and check in between.
 pub fn sequences(comparison: &mut Comparison, random: &mut Random, count: usize) {
     for round in 0..count.div_ceil(2) {
-        let size = if round % 16 == 0 { Size::any(random) } else { Size::small(random) };
-        let shape = *random.pick(&SHAPES);
-        let mut picture = network(random, shape, size);
+        let mut picture = any_network(random, round, 32);
         unprotect_some(random, &mut picture);
         let mut bytes = pack(&picture);
         for step in 0..30 {
@@ -57,7 +52,7 @@ pub fn sequences(comparison: &mut Comparison, random: &mut Random, count: usize)
 fn unprotect_some(random: &mut Random, picture: &mut Picture) {
     if random.once_in(2) {
         picture.endpoints.iter_mut().for_each(|endpoint| endpoint.protected = false);
-        picture.near_limit = 255;
+        picture.near_limit = picture.edition.max_near_limit();
     }
 }
 

@@ -184,8 +184,9 @@ fn columns(lists: &Lists) -> Vec<(&'static str, Vec<u8>)> {
     let pairs = |links: &[[u16; 2]]| links.iter().flatten().flat_map(|end| end.to_be_bytes()).collect();
     let marks = |marks: &[bool]| marks.iter().map(|mark| u8::from(*mark)).collect();
     vec![
+        ("edition", lists.edition.to_be_bytes().to_vec()),
         ("block size", lists.block_size.to_be_bytes().to_vec()),
-        ("near limit", vec![lists.near_limit]),
+        ("near limit", lists.near_limit.to_be_bytes().to_vec()),
         ("states", lists.states.clone()),
         ("near", marks(&lists.near)),
         ("weights", lists.weights.iter().flat_map(|weight| weight.to_be_bytes()).collect()),

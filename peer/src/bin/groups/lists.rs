@@ -1,11 +1,11 @@
 //! Lists to be written as a picture: right ones, ones around the limits, and ones with faults.
 
+use peer::edition::{EDITIONS, FIRST, MAX_BLOCK_SIZE, MAX_LINKS, MAX_PICTURE_BYTES};
 use peer::faults::{Fault, FAULTS};
-use peer::networks::{network, repeat_links, Size, SHAPES};
-use peer::picture::{picture_bytes, Picture};
-use peer::picture::{MAX_BLOCK_SIZE, MAX_LINKS, MAX_PICTURE_BYTES, MAX_SLOTS};
+use peer::networks::{any_edition, network, repeat_links, Size, SHAPES};
+use peer::picture::Picture;
 use peer::random::Random;
-use peer::{lists_of, pack, read, samples, Lists};
+use peer::{lists_of, pack, read, refusals, samples, Edition, Lists};
 
 use super::harness::Comparison;
 use super::raw::{Header, Raw};
@@ -17,8 +17,14 @@ const VERY_LONG: usize = 70_000;
 
 /// The length of the picture of lists that are right, and a fit length for others.
 fn due(lists: &Lists) -> usize {
-    let links = lists.links.len() + lists.serving.len();
-    picture_bytes(lists.states.len(), lists.weights.len(), links).min(ROOM)
+    let edition = Edition::of(lists.edition).unwrap_or(FIRST);
+    let (links, serving) = (lists.links.len(), lists.serving.len());
+    edition.picture_bytes(lists.states.len(), lists.weights.len(), links, serving).min(ROOM)
+}
+
+/// Any near limit that the header has room for.
+fn near_limit(random: &mut Random, edition: Edition) -> u16 {
+    random.draw() as u16 & edition.max_near_limit()
 }
 
 /// A buffer with old bytes of chance, so that a bit which is not written shows.
@@ -55,7 +61,8 @@ fn must_be_written(comparison: &mut Comparison, random: &mut Random, lists: &Lis
 fn any_network(random: &mut Random, round: usize) -> Picture {
     let size = match round % 64 {
         0 => Size::full(random),
-        1..=4 => Size::any(random),
+        1..=3 => Size::any(random),
+        4 | 5 => Size::beyond_first(random),
         _ => Size::small(random),
     };
     let shape = *random.pick(&SHAPES);
@@ -63,7 +70,7 @@ fn any_network(random: &mut Random, round: usize) -> Picture {
     if round % 64 == 0 {
         repeat_links(random, &mut picture);
     }
-    picture.near_limit = random.byte();
+    picture.near_limit = near_limit(random, picture.edition);
     picture
 }
 
@@ -76,15 +83,19 @@ pub fn networks(comparison: &mut Comparison, random: &mut Random, count: usize) 
     }
 }
 
-const PLAIN: Size = Size { block_size: 2, slots: 8, endpoints: 3, links: 6, serving: 5 };
+fn plain(edition: Edition) -> Size {
+    Size { edition, block_size: 2, slots: 8, endpoints: 3, links: 6, serving: 5 }
+}
 
 /// Lists of these lengths, right or not, with values that fit them.
 fn lists_to(random: &mut Random, size: Size) -> Lists {
-    let location = |random: &mut Random| random.between(0, size.slots.min(240)) as u16;
+    let most = size.slots.min(size.edition.max_slots);
+    let location = |random: &mut Random| random.between(0, most) as u16;
     let endpoint = |random: &mut Random| random.between(1, size.endpoints.clamp(1, 200)) as u16;
     Lists {
+        edition: size.edition.number.into(),
         block_size: size.block_size as u32,
-        near_limit: random.byte(),
+        near_limit: near_limit(random, size.edition),
         states: (0..size.slots).map(|_| random.below(3) as u8).collect(),
         near: (0..size.slots).map(|_| random.once_in(2)).collect(),
         weights: (0..size.endpoints).map(|_| random.draw() as u16).collect(),
@@ -102,22 +113,24 @@ fn of_size(comparison: &mut Comparison, random: &mut Random, size: Size) {
 /// Each limit and its neighbours, numbers that a field of the picture would cut to right ones, very
 /// long lists, and several of them together.
 pub fn limits(comparison: &mut Comparison, random: &mut Random, count: usize) {
-    for block_size in 0..=17 {
-        for slots in 0..=260 {
-            of_size(comparison, random, Size { block_size, slots, ..PLAIN });
+    for plain in EDITIONS.map(plain) {
+        for block_size in 0..=17 {
+            for slots in 0..=plain.edition.max_slots + 20 {
+                of_size(comparison, random, Size { block_size, slots, ..plain });
+            }
         }
-    }
-    for block_size in BLOCK_SIZES {
-        for slots in SLOTS {
-            of_size(comparison, random, Size { block_size, slots, ..PLAIN });
+        for block_size in BLOCK_SIZES {
+            for slots in SLOTS {
+                of_size(comparison, random, Size { block_size, slots, ..plain });
+            }
         }
-    }
-    for endpoints in (0..=260).chain(ENDPOINTS) {
-        of_size(comparison, random, Size { endpoints, ..PLAIN });
-    }
-    for links in LINKS {
-        for serving in LINKS {
-            of_size(comparison, random, Size { links, serving, ..PLAIN });
+        for endpoints in (0..=260).chain(ENDPOINTS) {
+            of_size(comparison, random, Size { endpoints, ..plain });
+        }
+        for links in LINKS {
+            for serving in LINKS {
+                of_size(comparison, random, Size { links, serving, ..plain });
+            }
         }
     }
     for _ in 0..count.div_ceil(8) {
@@ -128,23 +141,110 @@ pub fn limits(comparison: &mut Comparison, random: &mut Random, count: usize) {
 
 const BLOCK_SIZES: [usize; 10] =
     [1, 4, 8, 15, 16, 16 + 4, 256 + 4, 65_536 + 4, 1 << 31 | 4, u32::MAX as usize];
-const SLOTS: [usize; 13] = [0, 1, 4, 60, 61, 64, 240, 241, 244, 248, 256 + 240, 65_536 + 240, VERY_LONG];
+const SLOTS: [usize; 19] = [
+    0,
+    1,
+    4,
+    60,
+    61,
+    64,
+    240,
+    241,
+    244,
+    248,
+    300,
+    305,
+    320,
+    321,
+    328,
+    256 + 240,
+    4096 + 240,
+    65_536 + 240,
+    VERY_LONG,
+];
 const ENDPOINTS: [usize; 6] = [0, 200, 201, 256 + 200, 65_536 + 200, VERY_LONG];
 const LINKS: [usize; 9] =
     [0, 1, MAX_LINKS - 1, MAX_LINKS, MAX_LINKS + 1, 4095, 4096 + 6, 65_536 + 6, VERY_LONG];
 
+/// Forty blocks are as many slots as there may be in either edition, where nothing else is picked.
 fn limit_sizes(random: &mut Random) -> Size {
+    let edition = any_edition(random);
     let mut some = |usual: usize, others: &[usize]| match random.once_in(3) {
         true => *random.pick(others),
         false => usual,
     };
     Size {
-        block_size: some(4, &BLOCK_SIZES),
-        slots: some(240, &SLOTS),
+        edition,
+        block_size: some(edition.max_slots / 40, &BLOCK_SIZES),
+        slots: some(edition.max_slots, &SLOTS),
         endpoints: some(200, &ENDPOINTS),
         links: some(MAX_LINKS, &LINKS),
         serving: some(MAX_LINKS, &LINKS),
     }
+}
+
+const NUMBERS: [u32; 18] = [
+    0,
+    1,
+    2,
+    3,
+    4,
+    15,
+    16 + 1,
+    16 + 2,
+    255,
+    256 + 1,
+    256 + 2,
+    65_536 + 1,
+    65_536 + 2,
+    1 << 24 | 1,
+    1 << 24 | 2,
+    1 << 31 | 1,
+    1 << 31 | 2,
+    u32::MAX,
+];
+const NEAR_LIMITS: [u16; 16] =
+    [0, 1, 254, 255, 256, 257, 300, 511, 512, 4094, 4095, 4096, 4096 + 1, 32_768 | 2, 65_534, u16::MAX];
+
+/// Editions that there are and are not with near limits that fit their headers and do not: networks,
+/// the samples and what both editions have no room for, alone and with other faults.
+pub fn editions(comparison: &mut Comparison, random: &mut Random, count: usize) {
+    for near_limit in 0..=u16::MAX {
+        let edition = u32::from(random.pick(&EDITIONS).number);
+        let lists = Lists { edition, near_limit, ..lists_of(&samples::case_a()) };
+        written_or_refused(comparison, random, &lists);
+    }
+    let samples = samples::small().into_iter().chain(samples::long());
+    let networks = (0..count.div_ceil(128)).map(|round| any_network(random, round));
+    let pictures: Vec<Picture> = samples.chain(networks).collect();
+    for right in pictures.iter().map(lists_of) {
+        for edition in NUMBERS {
+            for near_limit in NEAR_LIMITS {
+                let mut lists = Lists { edition, near_limit, ..right.clone() };
+                written_or_refused(comparison, random, &lists);
+                add_faults(random, &mut lists, 8);
+                exact_buffer(comparison, random, &lists);
+            }
+        }
+    }
+}
+
+/// Lists that are right but for what the edition has no number or no room for.
+fn written_or_refused(comparison: &mut Comparison, random: &mut Random, lists: &Lists) {
+    let due = match Edition::of(lists.edition) {
+        Err(number) => -i32::from(number),
+        Ok(edition) => {
+            let fits =
+                lists.states.len() <= edition.max_slots && lists.near_limit <= edition.max_near_limit();
+            if fits {
+                must_be_written(comparison, random, lists);
+                return;
+            }
+            -i32::from(refusals::BLOCKS)
+        }
+    };
+    let answer = comparison.write(lists, &mut old_bytes(random, ROOM));
+    comparison.expect("write of what has no room", answer, due);
 }
 
 /// A column of a list.
@@ -176,7 +276,7 @@ fn set_length(lists: &mut Lists, column: Column, length: usize) {
 
 /// One column of a list shorter or longer than the other, alone and with other faults.
 pub fn unequal_columns(comparison: &mut Comparison, random: &mut Random, _: usize) {
-    for sample in samples::small().into_iter().chain([samples::longest()]) {
+    for sample in samples::small().into_iter().chain(samples::long()) {
         let right = lists_of(&sample);
         for column in COLUMNS {
             let length = length_of(&right, column);
@@ -228,9 +328,10 @@ fn exact_buffer(comparison: &mut Comparison, random: &mut Random, lists: &Lists)
 }
 
 /// Every state, at the ends of links the numbers around the limits and those whose low bits are
-/// right, also where there are no endpoints, and every number of 16 bits somewhere in case A.
+/// right, also where there are no endpoints, and every number of 16 bits somewhere in case A, of one
+/// edition or the other.
 pub fn values(comparison: &mut Comparison, random: &mut Random, _: usize) {
-    for sample in samples::small().into_iter().chain([samples::longest()]) {
+    for sample in samples::small().into_iter().chain(samples::long()) {
         let right = lists_of(&sample);
         for row in rows_to_try(right.states.len()) {
             let mut lists = right.clone();
@@ -245,7 +346,7 @@ pub fn values(comparison: &mut Comparison, random: &mut Random, _: usize) {
         each_end(comparison, random, &no_endpoints, |lists| &mut lists.serving);
     }
     for value in 0..=u16::MAX {
-        let mut lists = lists_of(&samples::case_a());
+        let mut lists = lists_of(random.pick(&[samples::case_a(), samples::second()]));
         let links = match random.once_in(2) {
             true => &mut lists.links,
             false => &mut lists.serving,
@@ -272,7 +373,7 @@ fn each_end(comparison: &mut Comparison, random: &mut Random, right: &Lists, lin
     }
 }
 
-fn ends(lists: &Lists) -> [u16; 14] {
+fn ends(lists: &Lists) -> [u16; 16] {
     let (slots, endpoints) = (lists.states.len() as u16, lists.weights.len() as u16);
     [
         0,
@@ -287,6 +388,8 @@ fn ends(lists: &Lists) -> [u16; 14] {
         256 + slots,
         256 + endpoints,
         1 << 12 | 1,
+        1 << 12 | slots,
+        4095,
         0xFF00 | 1,
         u16::MAX,
     ]
@@ -326,12 +429,12 @@ fn comes_back(comparison: &mut Comparison, random: &mut Random, picture: &[u8]) 
 
 /// Sizes of chance, which most of the time are a picture's.
 fn any_header(random: &mut Random) -> Header {
-    let block_size = random.between(1, MAX_BLOCK_SIZE);
+    let (edition, block_size) = (any_edition(random), random.between(1, MAX_BLOCK_SIZE));
     Header {
-        edition: 1,
+        edition: edition.number.into(),
         block_size: block_size as u32,
-        slots: (block_size * random.between(1, MAX_SLOTS / MAX_BLOCK_SIZE)) as u32,
-        near_limit: random.byte().into(),
+        slots: (block_size * random.between(1, edition.max_slots / MAX_BLOCK_SIZE)) as u32,
+        near_limit: near_limit(random, edition).into(),
         endpoints: random.between(1, 20) as u32,
         links: random.below(40) as u32,
         serving: random.below(40) as u32,

@@ -12,16 +12,18 @@ mod ties;
 mod watch;
 
 use harness::{Comparison, ACTS};
-use peer::choice::evidence_bytes;
-use peer::picture::{MAX_BLOCKS, MAX_SLOTS};
+use peer::choice::Plan;
+use peer::edition::MAX_EVIDENCE_BYTES;
+use peer::networks::{network, Size, SHAPES};
+use peer::picture::Picture;
 use peer::random::Random;
 
 /// Longer than any evidence.
-const ROOM: usize = evidence_bytes(MAX_SLOTS, MAX_BLOCKS) + 11;
+const ROOM: usize = MAX_EVIDENCE_BYTES + 11;
 
 type Group = fn(&mut Comparison, &mut Random, usize);
 
-pub const ALL: [(&str, Group); 33] = [
+pub const ALL: [(&str, Group); 37] = [
     ("truncations of the samples", pictures::truncations),
     ("bit flips of the samples", pictures::bit_flips),
     ("wrong ends of links", pictures::wrong_ends),
@@ -40,16 +42,20 @@ pub const ALL: [(&str, Group); 33] = [
     ("networks: layers", networks::layers),
     ("networks: full size", networks::full),
     ("networks: every block size", networks::block_sizes),
+    ("networks: beyond 240 slots", networks::beyond_first),
     ("ties: small", ties::small),
     ("ties: large", ties::large),
     ("evidence of the samples", evidence::of_samples),
     ("evidence, fields", evidence::fields),
     ("evidence, lengths and pictures", evidence::strangers),
+    ("evidence of the other edition", evidence::other_edition),
     ("evidence, foreign", forests::foreign),
     ("evidence, ends of blocks", forests::block_ends),
+    ("evidence, deep chains", forests::deep_chains),
     ("near limits", acts::near_limits),
     ("sequences of acts", acts::sequences),
     ("lists: networks", lists::networks),
+    ("lists: editions and near limits", lists::editions),
     ("lists: limits and one more", lists::limits),
     ("lists: unequal columns", lists::unequal_columns),
     ("lists: each value", lists::values),
@@ -57,12 +63,22 @@ pub const ALL: [(&str, Group); 33] = [
     ("lists: there and back", lists::there_and_back),
 ];
 
+/// A network of any shape, mostly a small one: once in `of` rounds one of any size and, half way
+/// between these, one with more slots than the first edition has.
+fn any_network(random: &mut Random, round: usize, of: usize) -> Picture {
+    let shape = *random.pick(&SHAPES);
+    let size = match round % of {
+        0 => Size::any(random),
+        place if place == of / 2 => Size::beyond_first(random),
+        _ => Size::small(random),
+    };
+    network(random, shape, size)
+}
+
 /// The canonical evidence, or nothing if the picture is refused.
 fn canonical(picture: &[u8]) -> Option<Vec<u8>> {
-    let mut buffer = vec![0; ROOM];
-    let length = peer::choose(picture, &mut buffer).ok()?;
-    buffer.truncate(length);
-    Some(buffer)
+    let plan = Plan::of(&peer::read(picture).ok()?);
+    Some(plan.evidence(plan.least()))
 }
 
 /// Choose with every kind of buffer, and the check of what it wrote.

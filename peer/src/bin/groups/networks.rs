@@ -1,8 +1,9 @@
 //! Random networks of each shape, put through every call.
 
+use peer::edition::MAX_BLOCK_SIZE;
 use peer::networks::{network, repeat_links, Shape, Size, SHAPES};
 use peer::pack;
-use peer::picture::{Picture, MAX_BLOCK_SIZE};
+use peer::picture::Picture;
 use peer::random::Random;
 
 use super::harness::Comparison;
@@ -71,6 +72,16 @@ pub fn block_sizes(comparison: &mut Comparison, random: &mut Random, count: usiz
                 every_call(comparison, random, &pack(&picture));
             }
         }
+    }
+}
+
+/// More slots than the first edition has, in every shape.
+pub fn beyond_first(comparison: &mut Comparison, random: &mut Random, count: usize) {
+    for round in 0..count.div_ceil(16) {
+        let size = Size::beyond_first(random);
+        let picture = network(random, SHAPES[round % SHAPES.len()], size);
+        // Rounds of one shape are eight apart, so that each of them has its turn in every call.
+        large(comparison, random, &picture, round / SHAPES.len());
     }
 }
 

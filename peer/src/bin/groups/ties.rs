@@ -1,10 +1,11 @@
 //! Blocks of equal loss: which of them choose names, and which of them evidence may name.
 
 use peer::choice::{Plan, Section};
+use peer::edition::{MAX_BLOCK_SIZE, MAX_ENDPOINTS};
 use peer::foreign::{self, GROWTHS};
-use peer::networks::tied;
+use peer::networks::{any_edition, tied};
 use peer::pack;
-use peer::picture::{Picture, MAX_BLOCKS, MAX_BLOCK_SIZE, MAX_ENDPOINTS, MAX_SLOTS};
+use peer::picture::Picture;
 use peer::random::Random;
 use peer::refusals;
 
@@ -20,7 +21,8 @@ pub fn small(comparison: &mut Comparison, random: &mut Random, count: usize) {
     for round in 0..count {
         let (block_size, blocks) = (random.between(1, 3), random.between(2, 4));
         let endpoints = blocks + random.below(6);
-        let picture = tied(random, block_size, blocks, endpoints);
+        let edition = any_edition(random);
+        let picture = tied(random, edition, block_size, blocks, endpoints);
         each_name(comparison, random, &picture);
         if round % 8 == 0 {
             let evidence = canonical(&pack(&picture)).expect("networks are accepted");
@@ -32,11 +34,10 @@ pub fn small(comparison: &mut Comparison, random: &mut Random, count: usize) {
 /// Any number of blocks and endpoints, up to the limits.
 pub fn large(comparison: &mut Comparison, random: &mut Random, count: usize) {
     for _ in 0..count.div_ceil(32) {
-        let block_size = random.between(1, MAX_BLOCK_SIZE);
-        let most = MAX_BLOCKS.min(MAX_SLOTS / block_size);
-        let blocks = end_or_between(random, 2, most);
+        let (edition, block_size) = (any_edition(random), random.between(1, MAX_BLOCK_SIZE));
+        let blocks = end_or_between(random, 2, edition.most_blocks(block_size));
         let endpoints = end_or_between(random, blocks, MAX_ENDPOINTS);
-        let picture = tied(random, block_size, blocks, endpoints);
+        let picture = tied(random, edition, block_size, blocks, endpoints);
         each_name(comparison, random, &picture);
     }
 }

@@ -1,5 +1,5 @@
 -- `meet_unevicted` looks for a common mark outside a range. The invariant: the words passed have none. Assumes nothing.
-use Prim.Native.Nat.{_-_}
+use Prim.Native.Nat.{_-_, _<_}
 use native.Mathlib.Omega.{arith}
 use borrow.Author.Needs.{needs}
 use Rattle.rows.specs.Rows.{rowWords}
@@ -8,10 +8,14 @@ use Rattle.checker.proofs.forests.meet_unevicted.Statement.{statement}
 use Rattle.checker.proofs.forests.meet_unevicted.Tie as tie
 
 abbrev Inv-loop : tie.InvT-loop
-Inv-loop row other evicted i₀ i = Apart evicted row other i
+Inv-loop row other words evicted i₀ i = Apart evicted row other i
 
 abbrev μ-loop : tie.MeasureT-loop
-μ-loop row other evicted i₀ i = rowWords - i
+μ-loop row other words evicted i₀ i = words - i
+
+-- the word at hand is one of the row's
+within : (c : tie.In-loop Inv-loop μ-loop) → c .before .loop .i < rowWords
+within c = omega (arith, c .loop-test .taken, c .before .before .pre .1 .most)
 
 loop-holds : tie.Need-loop-holds Inv-loop μ-loop
 loop-holds c = record { low = omega arith; none = λ v h. absurd (omega arith) }
@@ -46,10 +50,10 @@ loop-less c = search needs
 loop-again : tie.Need-loop-again Inv-loop μ-loop
 loop-again c =
     let t = c .before .before .before .before in
-    apart-next _ _ _ _ (t .before .loop .inv) (t .loop-test .taken) (c .before .leave-out .ensures) (c .if1 .left)
+    apart-next _ _ _ _ (t .before .loop .inv) (within t) (c .before .leave-out .ensures) (c .if1 .left)
 
 returns-2 : tie.Need-returns-2 Inv-loop μ-loop
-returns-2 c = apart-ended _ _ _ _ (c .before .loop .inv) (omega (arith, c .before .before .pre, c .loop-test .left))
+returns-2 c = apart-ended _ _ _ _ (c .before .loop .inv) (c .before .before .pre .1) (c .loop-test .left)
 
 pub meet-unevicted-spec : {M : Type 1} → statement M
 meet-unevicted-spec =

@@ -5,12 +5,12 @@ use mathlib.Core.List.{List}
 use Prim.Native.Nat.{_≤_}
 use native.Mathlib.Omega.{arith}
 use borrow.Author.Tests.{not-true, not-false, eq-eqb, ne-eqb}
-use Rattle.rows.specs.Rows.{linkedIn}
+use Rattle.rows.specs.Rows.{linkedIn, slotsMax}
 use Rattle.graph.specs.declared.Node.{Node}
 use Rattle.graph.specs.Kept.{nodeOf}
 use Rattle.graph.specs.Held.{heldIn}
 use Rattle.graph.proofs.Held.{slot-held}
-use Rattle.picture.specs.Layout.{edition1}
+use Rattle.picture.proofs.Starts.{few}
 use Rattle.evidence.specs.Contents.{forestIn}
 use Rattle.checker.proofs.Nodes.{forest-length, node-read, depth-small, slot-in, above-in}
 use Rattle.checker.proofs.Nodes.{node-outside, node-not-held, node-parent-out, node-not-linked, node-depths, node-root}
@@ -20,10 +20,14 @@ use Rattle.checker.proofs.forests.node_right.Tie as tie
 
 -- the forest, and its node that was handed in
 abbrev forest : tie.Start → List Node
-forest c = forestIn edition1 (c .args .n) (c .args .ev .now) (c .args .q)
+forest c = forestIn (c .args .h .edition) (c .args .h .slots) (c .args .ev .now) (c .args .q)
 
 handed : (c : tie.Start) → nodeOf (forest c) (c .args .v) ≡ c .args .x
-handed c = node-read _ _ _ _ (c .pre .0 .1) (c .pre .0 .2) ∙ sym (c .pre .1)
+handed c = node-read _ _ _ _ _ (c .pre .0 .1) (c .pre .0 .2) ∙ sym (c .pre .1)
+
+-- its slots are among the locations of the rows
+most : (c : tie.Start) → c .args .h .slots ≤ slotsMax
+most c = few _ (c .pre .0 .3) .slots
 
 -- where the function begins, and where the slot is found to be held
 abbrev start : tie.Else2 → tie.Start
@@ -45,13 +49,13 @@ some : (c : tie.Else5) → 1 ≤ start (held (c .before)) .args .x .parent
 some c = omega (arith, c .if5 .left)
 
 above : (c : tie.After-node-at) → let s = start (held (c .before .before)) in nodeOf (forest s) (s .args .x .parent) ≡ c .node-at .result
-above c = let l = c .before .before in node-read _ _ _ _ (some (c .before)) (l .before .before .before .if3 .left) ∙ sym (c .node-at .ensures)
+above c = let l = c .before .before in node-read _ _ _ _ _ (some (c .before)) (l .before .before .before .if3 .left) ∙ sym (c .node-at .ensures)
 
 returns : tie.Need-returns
 returns c = node-outside _ _ _ _ (handed (c .before .before)) (c .if1 .taken)
 
 has-requires : tie.Need-has-requires
-has-requires c κs = search needs
+has-requires c κs = let s = c .before .before in omega (arith, most s, s .pre .0 .2)
 
 returns-2 : tie.Need-returns-2
 returns-2 c =
@@ -63,13 +67,13 @@ returns-3 : tie.Need-returns-3
 returns-3 c = node-parent-out _ _ _ _ (handed (start (c .before))) (c .before .before .before .if1 .left) (above-in _ _ (rw forest-length (c .if3 .taken)))
 
 mul-has : tie.Need-mul-has
-mul-has c = search needs
+mul-has c = omega (arith, most (start (c .before)), c .if3 .left)
 
 index-1-has : tie.Need-index-1-has
-index-1-has c = search needs
+index-1-has c = omega (arith, most (start (c .before)), c .if3 .left)
 
 has-requires-2 : tie.Need-has-requires-2
-has-requires-2 c κs = search needs
+has-requires-2 c κs = let s = start (c .before .before) in omega (arith, most s, s .pre .0 .2)
 
 returns-4 : tie.Need-returns-4
 unfolding linkedIn
@@ -93,8 +97,8 @@ returns-6 c =
 
 add-result : tie.Need-add-result
 add-result c =
-    let a = start (held (c .before .before .before)) .args in
-    rw (c .before .node-at .ensures) (let d = depth-small (a .ev .now) (a .q) (a .x .parent) in omega arith)
+    let s = start (held (c .before .before .before)) in
+    rw (c .before .node-at .ensures) (let d = depth-small (s .pre .0 .3 .known) (s .args .ev .now) (s .args .q) (s .args .x .parent) in omega arith)
 
 returns-7 : tie.Need-returns-7
 returns-7 c =

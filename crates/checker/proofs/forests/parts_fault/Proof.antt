@@ -10,16 +10,16 @@ use Rattle.lists.proofs.Tests.{true-T}
 use Rattle.rows.specs.Rows.{marked, locationsMax, rowWords}
 use Rattle.rows.specs.declared.Range.{Range}
 use Rattle.rows.specs.Ranges.{without}
+use Rattle.rows.proofs.Marks.{less-narrow}
 use Rattle.rows.proofs.Ranges.{without-both, in-range-any}
 use Rattle.graph.specs.Held.{heldIn}
 use Rattle.graph.specs.declared.Node.{Node}
-use Rattle.picture.specs.Layout.{edition1, endpointsMax}
+use Rattle.picture.specs.Layout.{endpointsMax}
 use Rattle.network.proofs.Making.{clear-made}
-use Rattle.evidence.specs.Contents.{forestIn}
 use Rattle.checker.proofs.Nodes.{node-read}
 use Rattle.checker.proofs.Following.{Followed, followed-begun, followed-in, followed-out, Closed, closed-begun, closed-none, closed-out, closed-apart}
-use Rattle.checker.proofs.Going.{Given, given, Gone, Counted, PartAt, Inside, Sides, sides-whole, sides-less, tables-made, cuts-none, cuts-fewer, gone-begun, gone-ended}
-use Rattle.checker.proofs.Going.{part-begun, part-node, part-evicted, part-link, part-counted, part-stated, part-gone}
+use Rattle.checker.proofs.Going.{Given, given, forest, Gone, Counted, PartAt, Inside, Sides, sides-whole, sides-less, tables-made, table-limited, held-narrow, cuts-none, cuts-fewer, gone-begun, gone-ended}
+use Rattle.checker.proofs.Going.{part-begun, part-node, part-evicted, part-link, outer-narrow, part-ready, part-counted, part-stated, part-gone}
 use borrow.Author.Needs.{needs}
 use Rattle.checker.proofs.forests.parts_fault.Statement.{statement}
 use Rattle.checker.proofs.forests.parts_fault.Tie as tie
@@ -29,7 +29,7 @@ record Slots (x : Given) (row : List ℕ) (k q : ℕ) (evicted : Range) (fault :
   pub some : 1 ≤ v
   pub none : fault ≡ 0
   pub part : PartAt x row k q evicted
-  pub followed : Followed (x .links) (heldIn (x .held)) (forestIn edition1 (x .n) (x .ev) q) slots v
+  pub followed : Followed (x .links) (heldIn (x .held)) (forest x q) slots v
 
 -- the links of the locations below a are looked at, without a fault
 record Links (x : Given) (row : List ℕ) (k : ℕ) (evicted : Range) (inner outer : List ℕ) (fault a : ℕ) : Type 0 where
@@ -44,29 +44,30 @@ record Parts (x : Given) (cuts row : List ℕ) (fault k : ℕ) : Type 0 where
   pub counted : Counted x cuts k
 
 abbrev Inv-loop : tie.InvT-loop
-Inv-loop s ev count cuts held n size d links services weights protected none now fault₀ k q evicted slots₀ v₀ fault slots v =
-    Slots (given s ev held count n size d links services weights protected) now k q evicted fault slots v
+Inv-loop s h ev count cuts held n d words links services weights protected none now fault₀ k q evicted slots₀ v₀ fault slots v =
+    Slots (given s ev held h count words links services weights protected) now k q evicted fault slots v
 
 abbrev μ-loop : tie.MeasureT-loop
-μ-loop s ev count cuts held n size d links services weights protected none now fault₀ k q evicted slots₀ v₀ fault slots v = n + 1 - v
+μ-loop s h ev count cuts held n d words links services weights protected none now fault₀ k q evicted slots₀ v₀ fault slots v = n + 1 - v
 
 abbrev Inv-loop2 : tie.InvT-loop2
-Inv-loop2 s ev count cuts held n size d links services weights protected none now fault₀ k q evicted v inside outer a₀ fault a =
-    Links (given s ev held count n size d links services weights protected) now k evicted inside outer fault a
+Inv-loop2 s h ev count cuts held n d words links services weights protected none now fault₀ k q evicted v inside outer a₀ fault a =
+    Links (given s ev held h count words links services weights protected) now k evicted inside outer fault a
 
 abbrev μ-loop2 : tie.MeasureT-loop2
-μ-loop2 s ev count cuts held n size d links services weights protected none now fault₀ k q evicted v inside outer a₀ fault a = n + 1 - a
+μ-loop2 s h ev count cuts held n d words links services weights protected none now fault₀ k q evicted v inside outer a₀ fault a = n + 1 - a
 
 abbrev Inv-check : tie.InvT-check
-Inv-check s ev count cuts₀ held n size d links services weights protected none now₀ fault₀ k₀ cuts now fault k =
-    Parts (given s ev held count n size d links services weights protected) cuts now fault k
+Inv-check s h ev count cuts₀ held n d words links services weights protected none now₀ fault₀ k₀ cuts now fault k =
+    Parts (given s ev held h count words links services weights protected) cuts now fault k
 
 abbrev μ-check : tie.MeasureT-check
-μ-check s ev count cuts₀ held n size d links services weights protected none now₀ fault₀ k₀ cuts now fault k = count + 1 - k
+μ-check s h ev count cuts₀ held n d words links services weights protected none now₀ fault₀ k₀ cuts now fault k = count + 1 - k
 
--- the places of the code: a node is read, a turn of the links, the part's locations are gathered, the part begins, its two sides are set
+-- the places of the code: a node is read, a turn of the links, the part's locations are gathered, its slots were followed, the part begins, its
+-- two sides are set
 abbrev start : tie.After-links Inv-loop μ-loop Inv-loop2 μ-loop2 Inv-check μ-check → tie.Start Inv-loop μ-loop Inv-loop2 μ-loop2 Inv-check μ-check
-start c = c .before .before .before
+start c = c .before .before .before .before
 
 abbrev read : tie.After-node-right Inv-loop μ-loop Inv-loop2 μ-loop2 Inv-check μ-check → tie.After-node-at Inv-loop μ-loop Inv-loop2 μ-loop2 Inv-check μ-check
 read c = c .before .before .before
@@ -77,11 +78,17 @@ turn c = c .before .before .before
 abbrev gathered : tie.Joined7 Inv-loop μ-loop Inv-loop2 μ-loop2 Inv-check μ-check → tie.After-add2 Inv-loop μ-loop Inv-loop2 μ-loop2 Inv-check μ-check
 gathered c = c .before .before .before .before .before .before .before .before
 
+abbrev followed : tie.After-add2 Inv-loop μ-loop Inv-loop2 μ-loop2 Inv-check μ-check → tie.At-loop Inv-loop μ-loop Inv-loop2 μ-loop2 Inv-check μ-check
+followed c = c .before .before .before .before .before .before
+
 abbrev begun : tie.Joined7 Inv-loop μ-loop Inv-loop2 μ-loop2 Inv-check μ-check → tie.At-check Inv-loop μ-loop Inv-loop2 μ-loop2 Inv-check μ-check
-begun c = gathered c .before .before .before .before .before .before .before .before .before .before
+begun c = followed (gathered c) .before .before .before .before
 
 abbrev sided : tie.After-lost-between Inv-loop μ-loop Inv-loop2 μ-loop2 Inv-check μ-check → tie.Joined7 Inv-loop μ-loop Inv-loop2 μ-loop2 Inv-check μ-check
 sided c = c .before .before .before
+
+words-for-requires : tie.Need-words-for-requires Inv-loop μ-loop Inv-loop2 μ-loop2 Inv-check μ-check
+words-for-requires c κs = search needs
 
 link-rows-requires : tie.Need-link-rows-requires Inv-loop μ-loop Inv-loop2 μ-loop2 Inv-check μ-check
 link-rows-requires c κs = (start c .pre .0 .0, clear-made locationsMax)
@@ -98,16 +105,16 @@ check-holds c =
     let l = s .before .before in
     let given = start (l .before) .pre in
     let p = given .0 in
-    let t = tables-made (p .0) (p .1) (p .2) (p .3) (l .link-rows .ensures) (s .service-link-rows .ensures) (c .endpoint-rows .ensures) in
+    let t = tables-made (p .0) (p .1) (p .2) (p .3) (l .before .before .words-for .ensures) (l .link-rows .ensures) (s .service-link-rows .ensures) (c .endpoint-rows .ensures) in
     record { none = refl; gone = gone-begun t; counted = cuts-none (given .1) }
 
 forest-at-requires : tie.Need-forest-at-requires Inv-loop μ-loop Inv-loop2 μ-loop2 Inv-check μ-check
-forest-at-requires c κs = search needs
+forest-at-requires c κs = let t = c .before .check .inv .gone .tables in (table-limited t, omega (arith, t .few-parts, c .check-test .taken))
 
 evicted-in-requires : tie.Need-evicted-in-requires Inv-loop μ-loop Inv-loop2 μ-loop2 Inv-check μ-check
 evicted-in-requires c κs =
     let t = c .before .before .check .inv .gone .tables in
-    (t .few-slots, omega (arith, t .few-parts, c .before .check-test .taken), λ l. t .room _ l (c .before .check-test .taken))
+    (table-limited t, omega (arith, t .few-parts, c .before .check-test .taken), λ l. t .room _ l (c .before .check-test .taken))
 
 loop-holds : tie.Need-loop-holds Inv-loop μ-loop Inv-loop2 μ-loop2 Inv-check μ-check
 loop-holds c =
@@ -116,14 +123,14 @@ loop-holds c =
     record { some = omega arith; none = i .none; part = part; followed = followed-begun rowWords }
 
 node-at-requires : tie.Need-node-at-requires Inv-loop μ-loop Inv-loop2 μ-loop2 Inv-check μ-check
-node-at-requires c κs = search needs
+node-at-requires c κs = let i = c .before .loop .inv in (table-limited (i .part .gone .tables), i .some, c .loop-test .taken, i .part .small)
 
 node-right-requires : tie.Need-node-right-requires Inv-loop μ-loop Inv-loop2 μ-loop2 Inv-check μ-check
 node-right-requires c κs =
     let k = c .before .before in
     let i = k .before .before .loop .inv in
     let t = i .part .gone .tables in
-    ((t .link-rows .many, i .some, k .before .loop-test .taken, t .few-slots, i .part .small), k .node-at .ensures)
+    ((t .link-rows .many, i .some, k .before .loop-test .taken, table-limited t, i .part .small), k .node-at .ensures)
 
 add-requires : tie.Need-add-requires Inv-loop μ-loop Inv-loop2 μ-loop2 Inv-check μ-check
 add-requires c κs = search needs
@@ -138,7 +145,7 @@ loop-again : tie.Need-loop-again Inv-loop μ-loop Inv-loop2 μ-loop2 Inv-check �
 loop-again c =
     let k = read (c .before .before .before) in
     let l = k .before .before .loop in
-    let e = ap (λ (x : Node). x .depth) (node-read _ _ _ (l .v) (l .inv .some) (k .before .loop-test .taken) ∙ sym (k .node-at .ensures)) in
+    let e = ap (λ (x : Node). x .depth) (node-read _ _ _ _ (l .v) (l .inv .some) (k .before .loop-test .taken) ∙ sym (k .node-at .ensures)) in
     let r = sym (c .before .before .before .node-right .ensures) ∙ not-false _ (c .before .before .if1 .left) in
     record {
       some = omega arith;
@@ -155,13 +162,15 @@ add-requires-2 : tie.Need-add-requires-2 Inv-loop μ-loop Inv-loop2 μ-loop2 Inv
 add-requires-2 c κs = search needs
 
 minus-requires : tie.Need-minus-requires Inv-loop μ-loop Inv-loop2 μ-loop2 Inv-check μ-check
-minus-requires c κs = search needs
+minus-requires c κs = held-narrow (followed c .loop .inv .part .gone .tables)
 
 add-a : tie.Need-add-a Inv-loop μ-loop Inv-loop2 μ-loop2 Inv-check μ-check
 add-a c = search needs
 
 meet-unevicted-requires : tie.Need-meet-unevicted-requires Inv-loop μ-loop Inv-loop2 μ-loop2 Inv-check μ-check
-meet-unevicted-requires c κs = search needs
+meet-unevicted-requires c κs =
+    let m = c .before .before in
+    (search needs, less-narrow (held-narrow (followed (m .before) .loop .inv .part .gone .tables)) (m .minus .ensures))
 
 loop2-holds : tie.Need-loop2-holds Inv-loop μ-loop Inv-loop2 μ-loop2 Inv-check μ-check
 loop2-holds c =
@@ -200,7 +209,7 @@ index-1-leads-out : tie.Need-index-1-leads-out Inv-loop μ-loop Inv-loop2 μ-loo
 index-1-leads-out c = search needs
 
 leads-out-requires : tie.Need-leads-out-requires Inv-loop μ-loop Inv-loop2 μ-loop2 Inv-check μ-check
-leads-out-requires c κs = search needs
+leads-out-requires c κs = (search needs, outer-narrow (turn (c .before .before .before .before) .loop2 .inv .inside))
 
 add-a-2 : tie.Need-add-a-2 Inv-loop μ-loop Inv-loop2 μ-loop2 Inv-check μ-check
 add-a-2 c = search needs
@@ -225,10 +234,13 @@ sides : (c : tie.Joined7 Inv-loop μ-loop Inv-loop2 μ-loop2 Inv-check μ-check)
 sides c = ⊎-elim (λ w. sides-whole _ (w .0 .taken) (w .1) (w .2)) (λ w. sides-less _ (w .0 .left) (w .1) (w .2)) (c .if7 .came)
 
 lost-between-requires : tie.Need-lost-between-requires Inv-loop μ-loop Inv-loop2 μ-loop2 Inv-check μ-check
-lost-between-requires c κs = search needs
+lost-between-requires c κs = let s = c .before .before in part-ready (s .before .before .loop2 .inv .inside) (sides s)
 
 stated-right-requires : tie.Need-stated-right-requires Inv-loop μ-loop Inv-loop2 μ-loop2 Inv-check μ-check
-stated-right-requires c κs = search needs
+stated-right-requires c κs =
+    let p = sided c .before .before .loop2 .inv .inside .part in
+    let t = p .gone .tables in
+    (table-limited t, omega (arith, p .most, t .few-parts))
 
 sub-cuts : tie.Need-sub-cuts Inv-loop μ-loop Inv-loop2 μ-loop2 Inv-check μ-check
 sub-cuts c = let z = c .if9 .taken in omega arith
@@ -295,6 +307,7 @@ parts-fault-spec =
     μ-loop2
     Inv-check
     μ-check
+    words-for-requires
     link-rows-requires
     service-link-rows-requires
     endpoint-rows-requires

@@ -18,24 +18,25 @@ head-of-requires c κs = search needs
 returns-2 : tie.Need-returns-2
 unfolding headRight
 returns-2 c =
-    let l = c .before .before .before in
-    rw (← l .before .evidence-bytes .ensures, eq-eqb _ _ (l .if1 .left), ← c .before .before .head-of .ensures, ne-eqb _ _ (c .if2 .taken))
+    let h = c .before .before .before in
+    let l = h .before in
+    rw (← l .before .evidence-bytes .ensures, eq-eqb _ _ (l .if1 .left), ← h .head-of .ensures, ne-eqb _ _ (c .if2 .taken))
 
 returns-3 : tie.Need-returns-3
 unfolding headRight
 returns-3 c =
     let e = c .before .before in
-    let l = e .before .before .before in
-    let h = e .before .before .head-of in
-    rw (← l .before .evidence-bytes .ensures, eq-eqb _ _ (l .if1 .left), ← h .ensures, eq-eqb _ _ (e .if2 .left), lt-leb _ _ (c .if3 .taken))
+    let h = e .before .before .before in
+    let l = h .before in
+    rw (← l .before .evidence-bytes .ensures, eq-eqb _ _ (l .if1 .left), ← h .head-of .ensures, eq-eqb _ _ (e .if2 .left), lt-leb _ _ (c .if3 .taken))
 
 returns-4 : tie.Need-returns-4
 unfolding headRight
 returns-4 c =
     let e = c .before .before .before in
-    let l = e .before .before .before in
-    let h = e .before .before .head-of in
-    rw (← l .before .evidence-bytes .ensures, eq-eqb _ _ (l .if1 .left), ← h .ensures, eq-eqb _ _ (e .if2 .left), le-leb _ _ (c .before .if3 .left))
+    let h = e .before .before .before in
+    let l = h .before in
+    rw (← l .before .evidence-bytes .ensures, eq-eqb _ _ (l .if1 .left), ← h .head-of .ensures, eq-eqb _ _ (e .if2 .left), le-leb _ _ (c .before .if3 .left))
 
 pub head-right-spec : {M : Type 1} → statement M
 head-right-spec =

@@ -8,6 +8,7 @@ use native.Mathlib.Nat.{zero-add}
 use Rattle.lists.specs.Lists.{range, any}
 use Rattle.lists.proofs.Tests.{any-map}
 use Rattle.lists.proofs.Scans.{none-begun, none-more, some-found}
+use Rattle.picture.specs.declared.Header.{Header}
 use Rattle.evidence.specs.declared.Choice.{Choice}
 use Rattle.evidence.specs.Checks.{isNamed}
 use Rattle.checker.specs.Verdict.{costIn, stated}
@@ -16,14 +17,14 @@ use Rattle.checker.proofs.verdict.any_named.Statement.{statement}
 use Rattle.checker.proofs.verdict.any_named.Tie as tie
 
 -- section i is named
-abbrev names : List ℕ → ℕ → List ℕ → ℕ → Choice → ℕ → Bool
-names ev n cuts block c i = isNamed block c (costIn n ev cuts i)
+abbrev names : List ℕ → Header → List ℕ → ℕ → Choice → ℕ → Bool
+names ev h cuts block c i = isNamed block c (costIn (h .edition) (h .slots) ev cuts i)
 
 abbrev Inv-loop : tie.InvT-loop
-Inv-loop ev n count cuts block c i₀ i = (i ≤ count) × (any (names ev n cuts block c) (range 0 i) ≡ false)
+Inv-loop ev h count cuts block c i₀ i = (i ≤ count) × (any (names ev h cuts block c) (range 0 i) ≡ false)
 
 abbrev μ-loop : tie.MeasureT-loop
-μ-loop ev n count cuts block c i₀ i = count - i
+μ-loop ev h count cuts block c i₀ i = count - i
 
 loop-holds : tie.Need-loop-holds Inv-loop μ-loop
 loop-holds c = (omega arith, none-begun _ _)
@@ -36,7 +37,7 @@ is-named-requires c κs = search needs
 
 -- what was found of the section at hand
 found : (c : tie.After-is-named Inv-loop μ-loop) → let l = c .before .before .before in let a = l .before .before .before .args in
-    names (a .ev .now) (a .n) (a .cuts .now) (a .block) (a .c) (0 + l .loop .i) ≡ c .is-named .result
+    names (a .ev .now) (a .h) (a .cuts .now) (a .block) (a .c) (0 + l .loop .i) ≡ c .is-named .result
 found c =
     let l = c .before .before .before in
     let a = l .before .before .before .args in
@@ -66,7 +67,7 @@ returns-2 c =
     let l = c .before .loop in
     let a = c .before .before .before .before .args in
     let all : l .i ≡ a .count = omega (arith, l .inv .0) in
-    sym (l .inv .1) ∙ ap (λ (k : ℕ). any (names (a .ev .now) (a .n) (a .cuts .now) (a .block) (a .c)) (range 0 k)) all ∙ sym (any-map _ _ _)
+    sym (l .inv .1) ∙ ap (λ (k : ℕ). any (names (a .ev .now) (a .h) (a .cuts .now) (a .block) (a .c)) (range 0 k)) all ∙ sym (any-map _ _ _)
 
 pub any-named-spec : {M : Type 1} → statement M
 any-named-spec =

@@ -10,13 +10,13 @@ use Rattle.checker.proofs.verdict.implied.Statement.{statement}
 use Rattle.checker.proofs.verdict.implied.Tie as tie
 
 abbrev Inv-loop : tie.InvT-loop
-Inv-loop ev n count cuts best₀ i₀ best i = (i ≤ count) × (best ≡ least (stated n ev cuts i))
+Inv-loop ev h count cuts best₀ i₀ best i = (i ≤ count) × (best ≡ least (stated (h .edition) (h .slots) ev cuts i))
 
 abbrev μ-loop : tie.MeasureT-loop
-μ-loop ev n count cuts best₀ i₀ best i = count - i
+μ-loop ev h count cuts best₀ i₀ best i = count - i
 
 loop-holds : tie.Need-loop-holds Inv-loop μ-loop
-loop-holds c = (omega arith, implied-begun _ _ _)
+loop-holds c = (omega arith, implied-begun _ _ _ _)
 
 cost-at-requires : tie.Need-cost-at-requires Inv-loop μ-loop
 cost-at-requires c κs = search needs
@@ -34,14 +34,14 @@ loop-again : tie.Need-loop-again Inv-loop μ-loop
 loop-again c =
     let k = c .before in
     let l = k .before .before .loop in
-    (omega arith, c .better .ensures ∙ ap (bettered (l .best)) (k .cost-at .ensures) ∙ implied-next _ _ _ (l .i) (l .inv .1))
+    (omega arith, c .better .ensures ∙ ap (bettered (l .best)) (k .cost-at .ensures) ∙ implied-next _ _ _ _ (l .i) (l .inv .1))
 
 returns : tie.Need-returns Inv-loop μ-loop
 returns c =
     let l = c .before .loop in
     let a = c .before .before .before .before .args in
     let all : l .i ≡ a .count = omega (arith, l .inv .0) in
-    l .inv .1 ∙ ap (λ (k : ℕ). least (stated (a .n) (a .ev .now) (a .cuts .now) k)) all
+    l .inv .1 ∙ ap (λ (k : ℕ). least (stated (a .h .edition) (a .h .slots) (a .ev .now) (a .cuts .now) k)) all
 
 pub implied-spec : {M : Type 1} → statement M
 implied-spec =

@@ -7,7 +7,6 @@ use borrow.Author.Count.{below-none, below-more}
 use borrow.Author.Tests.{eq-eqb, ne-eqb}
 use lib.Dec.{eqb}
 use Rattle.lists.proofs.Searches.{place-found, place-none}
-use Rattle.picture.specs.Layout.{edition1}
 use Rattle.evidence.specs.Contents.{sectionIn}
 use Rattle.checker.specs.Verdict.{sectionNamed}
 use borrow.Author.Needs.{needs}
@@ -15,10 +14,10 @@ use Rattle.checker.proofs.verdict.section_named.Statement.{statement}
 use Rattle.checker.proofs.verdict.section_named.Tie as tie
 
 abbrev Inv-loop : tie.InvT-loop
-Inv-loop ev n count b i₀ i = (j : ℕ) → j < i → eqb (sectionIn edition1 n ev j .block) b ≡ false
+Inv-loop ev h count b i₀ i = (j : ℕ) → j < i → eqb (sectionIn (h .edition) (h .slots) ev j .block) b ≡ false
 
 abbrev μ-loop : tie.MeasureT-loop
-μ-loop ev n count b i₀ i = count - i
+μ-loop ev h count b i₀ i = count - i
 
 loop-holds : tie.Need-loop-holds Inv-loop μ-loop
 loop-holds c = below-none _

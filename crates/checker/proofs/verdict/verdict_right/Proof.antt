@@ -18,20 +18,20 @@ implied-requires c κs = search needs
 returns : tie.Need-returns
 returns c =
     let k = c .before .before .before in
-    verdict-differs _ _ _ _ (k .before .head-of .ensures) (k .implied .ensures) (c .if1 .taken)
+    verdict-differs _ _ _ _ _ (k .before .head-of .ensures) (k .implied .ensures) (c .if1 .taken)
 
 returns-2 : tie.Need-returns-2
 returns-2 c =
     let e = c .before .before .before in
     let k = known e in
-    loss-differs _ _ _ _ (k .before .head-of .ensures) (k .implied .ensures) (e .if1 .left) (c .if2 .taken)
+    loss-differs _ _ _ _ _ (k .before .head-of .ensures) (k .implied .ensures) (e .if1 .left) (c .if2 .taken)
 
 returns-3 : tie.Need-returns-3
 returns-3 c =
     let d = c .before .before .before in
     let e = d .before .before .before in
     let k = known e in
-    none-right _ _ _ _ (k .before .head-of .ensures) (k .implied .ensures) (e .if1 .left) (d .if2 .left) (c .before .if3 .taken)
+    none-right _ _ _ _ _ (k .before .head-of .ensures) (k .implied .ensures) (e .if1 .left) (d .if2 .left) (c .before .if3 .taken)
 
 any-named-requires : tie.Need-any-named-requires
 any-named-requires c κs = search needs
@@ -41,7 +41,7 @@ returns-4 c =
     let d = c .before .before .before in
     let e = d .before .before .before in
     let k = known e in
-    c .any-named .ensures ∙ chosen-right _ _ _ _ (k .before .head-of .ensures) (k .implied .ensures) (e .if1 .left) (d .if2 .left) (c .before .if3 .left)
+    c .any-named .ensures ∙ chosen-right _ _ _ _ _ (k .before .head-of .ensures) (k .implied .ensures) (e .if1 .left) (d .if2 .left) (c .before .if3 .left)
 
 pub verdict-right-spec : {M : Type 1} → statement M
 verdict-right-spec =
