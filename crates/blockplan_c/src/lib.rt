@@ -102,11 +102,12 @@ pub extern "C" fn blockplan_free(picture: &mut [u8], block: u32) -> i32
     acting_number(acts::free(picture, block))
 }
 
-// Writes a picture from lists: its length, or minus the number of the first fault.
+// Writes a picture of an edition from lists: its length, or minus the number of the first fault.
 #[no_mangle]
 pub extern "C" fn blockplan_write(
+    edition: u32,
     block_size: u32,
-    near_limit: u8,
+    near_limit: u16,
     states: &[u8],
     is_near: &[bool],
     weights: &[u16],
@@ -116,10 +117,11 @@ pub extern "C" fn blockplan_write(
     picture: &mut [u8],
 ) -> i32
     ensures { λ r.
-        ⌜ WritesForC (handed «block_size» «near_limit» (now (states .entry)) (now («is_near» .entry)) (now (weights .entry)) (now («is_protected» .entry)) (now (links .entry)) (now («service_links» .entry)))
+        ⌜ WritesForC (handed edition «block_size» «near_limit» (now (states .entry)) (now («is_near» .entry)) (now (weights .entry)) (now («is_protected» .entry)) (now (links .entry)) (now («service_links» .entry)))
         (now (picture .entry)) r (now (picture .exit)) ⌝ }
 {
     match write::write(
+        edition,
         block_size,
         near_limit,
         states,

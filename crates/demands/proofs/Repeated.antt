@@ -7,7 +7,7 @@ use lib.Dec.{eqb, leb, ltb}
 use lib.ListN.{length, drop}
 use Rattle.lists.specs.Lists.{on, first, place}
 use Rattle.packing.specs.Packing.{packed}
-use Rattle.picture.specs.Layout.{edition1}
+use Rattle.picture.specs.Layout.{editionOf}
 use Rattle.picture.specs.Picture.{pictureOf}
 use Rattle.picture.specs.Faults.{pictureFault}
 use Rattle.network.specs.Repeats.{Repeated}
@@ -25,7 +25,7 @@ use Rattle.acts.specs.Answers.{actingOf, acting}
 use Rattle.acts.proofs.Repeats.{repeated-act, repeated-after}
 use Rattle.demands.specs.Repeats.{CountsOnce}
 
-module _ (bs bs′ : List ℕ) (fault : pictureFault bs ≡ pictureFault bs′) (r : Repeated (pictureOf bs) (pictureOf bs′)) where
+module _ (bs bs′ : List ℕ) (one : editionOf bs ≡ editionOf bs′) (fault : pictureFault bs ≡ pictureFault bs′) (r : Repeated (pictureOf bs) (pictureOf bs′)) where
   weighs : (b : ℕ) → weighing bs b ≡ weighing bs′ b
   unfolding weighing weighFault blockFault weightsOf
   weighs b =
@@ -35,7 +35,7 @@ module _ (bs bs′ : List ℕ) (fault : pictureFault bs ≡ pictureFault bs′) 
 
   same-length : lengthFor bs ≡ lengthFor bs′
   unfolding lengthFor
-  same-length = λ i. evidenceBytes edition1 (same-slots r i) (length (repeated-candidates r i))
+  same-length = λ i. evidenceBytes (one i) (same-slots r i) (length (repeated-candidates r i))
 
   module _ (buf : List ℕ) where
     same-fault : chooseFault bs buf ≡ chooseFault bs′ buf
@@ -48,12 +48,12 @@ module _ (bs bs′ : List ℕ) (fault : pictureFault bs ≡ pictureFault bs′) 
 
     leaves : chosenBytes bs buf ≡ chosenBytes bs′ buf
     unfolding chosenBytes evidenceOf
-    leaves = λ i. cond (eqb (same-fault i) 0) (packed (repeated-evidence r edition1 i) ++ drop (same-length i) buf) buf
+    leaves = λ i. cond (eqb (same-fault i) 0) (packed (repeated-evidence r (one i) i) ++ drop (same-length i) buf) buf
 
   module _ (ev : List ℕ) where
     checks : checking bs ev ≡ checking bs′ ev
     unfolding checking
-    checks = ap checkingOf (repeated-check bs bs′ fault r ev)
+    checks = ap checkingOf (repeated-check bs bs′ one fault r ev)
 
     shows : shownPart bs ev ≡ shownPart bs′ ev
     unfolding shownPart
@@ -61,19 +61,19 @@ module _ (bs bs′ : List ℕ) (fault : pictureFault bs ≡ pictureFault bs′) 
         λ i.
         let n : ℕ = same-slots r i in
         let k : ℕ = place (λ c. eqb c (headIn ev .block)) (repeated-candidates r i) in
-        let section : Part = record { start = sectionAt edition1 n k / 8; size = sectionBytes edition1 n } in
-        cond (eqb (repeated-check bs bs′ fault r ev i) 0 && eqb (headIn ev .verdict) 1) section (record { start = 0; size = 0 })
+        let section : Part = record { start = sectionAt (one i) n k / 8; size = sectionBytes (one i) n } in
+        cond (eqb (repeated-check bs bs′ one fault r ev i) 0 && eqb (headIn ev .verdict) 1) section (record { start = 0; size = 0 })
 
 pub counts-once : CountsOnce
 unfolding acting
-counts-once bs bs′ ok ok′ r =
+counts-once bs bs′ one ok ok′ r =
     let fault = ok ∙ sym ok′ in
     record {
-      weighs = weighs bs bs′ fault r;
-      chooses = chooses bs bs′ fault r;
-      leaves = leaves bs bs′ fault r;
-      checks = checks bs bs′ fault r;
-      shows = shows bs bs′ fault r;
+      weighs = weighs bs bs′ one fault r;
+      chooses = chooses bs bs′ one fault r;
+      leaves = leaves bs bs′ one fault r;
+      checks = checks bs bs′ one fault r;
+      shows = shows bs bs′ one fault r;
       acts = λ a b. ap actingOf (repeated-act bs bs′ ok ok′ r a b);
       after = repeated-after bs bs′ ok ok′ r;
     }

@@ -3,6 +3,7 @@
 use mathlib.Core.List.{List}
 use mathlib.Core.Path.{_≡_}
 use Prim.Native.Nat.{ℕ}
+use Rattle.picture.specs.Layout.{editionOf}
 use Rattle.picture.specs.Picture.{pictureOf}
 use Rattle.picture.specs.Faults.{pictureFault}
 use Rattle.network.specs.Repeats.{Repeated}
@@ -27,6 +28,6 @@ pub record Alike (bs bs′ : List ℕ) : Type 0 where
   pub acts : (a : Act) (b : ℕ) → acting a bs b ≡ acting a bs′ b
   pub after : (a : Act) (b : ℕ) → Repeated (pictureOf (actBytes a bs b)) (pictureOf (actBytes a bs′ b))
 
--- of any two accepted pictures that differ in repeats alone
+-- of any two accepted pictures of one edition that differ in repeats alone
 abbrev pub CountsOnce : Type 0
-CountsOnce = (bs bs′ : List ℕ) → pictureFault bs ≡ 0 → pictureFault bs′ ≡ 0 → Repeated (pictureOf bs) (pictureOf bs′) → Alike bs bs′
+CountsOnce = (bs bs′ : List ℕ) → editionOf bs ≡ editionOf bs′ → pictureFault bs ≡ 0 → pictureFault bs′ ≡ 0 → Repeated (pictureOf bs) (pictureOf bs′) → Alike bs bs′

@@ -2,16 +2,16 @@
 use mathlib.Core.List.{List, _++_, map}
 use Prim.Native.Nat.{ℕ}
 use Rattle.lists.specs.Lists.{range, flat}
-use Rattle.picture.specs.Layout.{edition1}
+use Rattle.picture.specs.declared.Edition.{Edition}
 use Rattle.evidence.specs.Contents.{headIn, sectionIn}
 use Rattle.listing.specs.Listing.{servedLine, blockLine, choiceLine}
 
--- the lines of the first k sections of evidence for n slots
-unfoldable pub sectionLines : ℕ → List ℕ → ℕ → List ℕ
-sectionLines n ev k = flat (map (λ i. blockLine (sectionIn edition1 n ev i)) (range 0 k))
+-- the lines of the first k sections of an edition's evidence for n slots
+unfoldable pub sectionLines : Edition → ℕ → List ℕ → ℕ → List ℕ
+sectionLines e n ev k = flat (map (λ i. blockLine (sectionIn e n ev i)) (range 0 k))
 
--- all lines, off evidence for n slots
-unfoldable pub evidenceLines : ℕ → List ℕ → List ℕ
-evidenceLines n ev =
+-- all lines, off that evidence
+unfoldable pub evidenceLines : Edition → ℕ → List ℕ → List ℕ
+evidenceLines e n ev =
     servedLine (headIn ev .served)
-    ++ (sectionLines n ev (headIn ev .count) ++ choiceLine (headIn ev .verdict) (headIn ev .block) (headIn ev .loss))
+    ++ (sectionLines e n ev (headIn ev .count) ++ choiceLine (headIn ev .verdict) (headIn ev .block) (headIn ev .loss))

@@ -4,8 +4,8 @@ ghost use mathlib.Core.Path.{_≡_};
 ghost use mathlib.Core.List.{_++_};
 ghost use Prim.Native.Nat.{_+_, _^_, _≤_, _<_};
 ghost use lib.ListN.{length, drop};
-ghost use Rattle.rows.specs.Rows.{slotsMax};
 ghost use Rattle.picture.specs.Layout.{blocksMax};
+ghost use Rattle.picture.specs.Inner.{Limited};
 ghost use Rattle.evidence.specs.Contents.{headIn};
 ghost use Rattle.listing.specs.Text.{textMax, Texted};
 ghost use Rattle.listing.specs.Listing.{phrase, servedLine, blockLine, choiceLine, refusedLine, listing};
@@ -13,6 +13,7 @@ ghost use Rattle.listing.specs.ByEvidence.{evidenceLines};
 use evidence::EVIDENCE_MAX;
 use evidence::Head;
 use evidence::Stated;
+use picture::Header;
 use picture::Reading;
 
 // More than the longest text takes: 62 lines of at most 43 bytes.
@@ -77,16 +78,16 @@ fn put_choice_line(text: &mut [u8], at: usize, head: Head) -> usize
     put_word(text, then, b"\n")
 }
 
-// Puts all lines that the evidence tells of a picture of n slots.
-fn put_lines(text: &mut [u8], ev: &[u8], n: usize) -> usize
-    requires { ⌜ (n ≤ slotsMax) × (headIn (now ev) .count ≤ blocksMax) × (textMax ≤ length (now text)) ⌝ }
-    ensures { λ r. ⌜ Texted (now (text .entry)) 0 (evidenceLines n (now (ev .entry))) (now (text .exit)) r ⌝ }
+// Puts all lines that the evidence tells of a picture with this header.
+fn put_lines(text: &mut [u8], ev: &[u8], h: Header) -> usize
+    requires { ⌜ Limited h × (headIn (now ev) .count ≤ blocksMax) × (textMax ≤ length (now text)) ⌝ }
+    ensures { λ r. ⌜ Texted (now (text .entry)) 0 (evidenceLines (h .edition) (h .slots) (now (ev .entry))) (now (text .exit)) r ⌝ }
 {
     let head = evidence::head_of(ev);
     let mut at = put_served_line(text, 0, head.served);
     let mut i: usize = 0;
     while i < head.count {
-        at = put_block_line(text, at, evidence::section_of(ev, n, i));
+        at = put_block_line(text, at, evidence::section_of(ev, h, i));
         i += 1;
     }
     put_choice_line(text, at, head)
@@ -113,7 +114,7 @@ pub fn list(s: &[u8], text: &mut [u8; TEXT_MAX]) -> usize
             let p = choose::make_plan(s, h);
             let length = p.length;
             choose::write_evidence(s, h, p, &mut space);
-            put_lines(text, &space[..length], h.slots)
+            put_lines(text, &space[..length], h)
         }
     }
 }

@@ -16,19 +16,20 @@ use Rattle.packing.proofs.Packed.{length-packed}
 use Rattle.picture.specs.declared.Edition.{Edition}
 use Rattle.picture.specs.declared.Header.{Header}
 use Rattle.picture.specs.declared.Link.{Link}
-use Rattle.picture.specs.Layout.{edition1, headerWidths, slotWidths, endpointWidths, linkWidths, serviceLinkWidths, slotsAt, endpointsAt, linksAt, serviceLinksAt, endAt, sizeOf}
+use Rattle.picture.specs.Layout.{headerWidths, slotWidths, endpointWidths, linkWidths, serviceLinkWidths, slotsAt, endpointsAt, linksAt, serviceLinksAt, endAt, sizeOf}
 use Rattle.picture.specs.Picture.{Slot, Endpoint, Picture, slotOf, endpointOf}
 use Rattle.picture.specs.Rules.{noLink}
 use Rattle.picture.specs.Answers.{headerValues}
+use Rattle.picture.proofs.Editions.{known-for, widths}
 use Rattle.write.specs.Columns.{Lists, Typed, endpointFrom, pictureFrom, headerFor}
 use Rattle.write.specs.Fields.{headerFields, slotFields, endpointFields, linkFields, pictureFields, pictureBytes}
-use Rattle.write.proofs.Right.{Right}
+use Rattle.write.proofs.Right.{editionIn, headerFrom, Right}
 
 -- ---- what the fields take
 
-pub header-span : (e : Edition) (h : Header) → span (headerFields e h) ≡ sum (headerWidths e)
+pub header-span : (h : Header) → span (headerFields h) ≡ sum (headerWidths (h .edition))
 unfolding span headerFields fieldsOf headerWidths headerValues sum
-header-span e h = refl
+header-span h = refl
 
 pub slot-span : (s : Slot) → span (slotFields s) ≡ sum slotWidths
 unfolding span slotFields fieldsOf slotWidths sum
@@ -48,7 +49,7 @@ link-span a b l = refl
 module _ (e : Edition) (p : Picture) where
   -- its parts: the header, and the rows of the four lists
   abbrev pub header-of : List Field
-  header-of = headerFields e (headerFor p)
+  header-of = headerFields (headerFor e p)
 
   abbrev pub slots-of : List Field
   slots-of = flat (map slotFields (p .slots))
@@ -64,30 +65,30 @@ module _ (e : Edition) (p : Picture) where
 
   -- where each part ends, the next one starts
   pub header-ends : 0 + span header-of ≡ slotsAt e
-  unfolding slotsAt
-  header-ends = zero-add (span header-of) ∙ header-span e (headerFor p)
+  unfolding slotsAt headerFor
+  header-ends = zero-add (span header-of) ∙ header-span (headerFor e p)
 
-  pub slots-end : slotsAt e + span slots-of ≡ endpointsAt (headerFor p)
+  pub slots-end : slotsAt e + span slots-of ≡ endpointsAt (headerFor e p)
   unfolding endpointsAt headerFor
   slots-end = rw (span-flat slotFields (sum slotWidths) slot-span (p .slots))
 
-  pub endpoints-end : endpointsAt (headerFor p) + span endpoints-of ≡ linksAt (headerFor p)
+  pub endpoints-end : endpointsAt (headerFor e p) + span endpoints-of ≡ linksAt (headerFor e p)
   unfolding linksAt headerFor
   endpoints-end = rw (span-flat endpointFields (sum endpointWidths) endpoint-span (p .endpoints))
 
-  pub links-end : linksAt (headerFor p) + span links-of ≡ serviceLinksAt (headerFor p)
+  pub links-end : linksAt (headerFor e p) + span links-of ≡ serviceLinksAt (headerFor e p)
   unfolding serviceLinksAt headerFor linkWidths
   links-end = rw (span-flat (linkFields (linkWidths e)) (sum (linkWidths e)) (link-span _ _) (p .links))
 
-  pub services-end : serviceLinksAt (headerFor p) + span services-of ≡ endAt (headerFor p)
+  pub services-end : serviceLinksAt (headerFor e p) + span services-of ≡ endAt (headerFor e p)
   unfolding endAt headerFor serviceLinkWidths
   services-end = rw (span-flat (linkFields (serviceLinkWidths e)) (sum (serviceLinkWidths e)) (link-span _ _) (p .serviceLinks))
 
-  pub span-picture : span (pictureFields e p) ≡ endAt (headerFor p)
+  pub span-picture : span (pictureFields e p) ≡ endAt (headerFor e p)
   unfolding pictureFields
   span-picture = simp span-append (omega (arith, header-ends, slots-end, endpoints-end, links-end, services-end))
 
-  pub length-picture : length (pictureBytes e p) ≡ sizeOf (headerFor p)
+  pub length-picture : length (pictureBytes e p) ≡ sizeOf (headerFor e p)
   unfolding pictureBytes sizeOf
   length-picture = length-packed (pictureFields e p) ∙ ap (λ (n : ℕ). (n + 7) / 8) span-picture
 
@@ -102,16 +103,20 @@ links-fit : (a b : ℕ) (ls : List Link) → ((i : ℕ) → i < length ls → ge
 unfolding linkFields fieldsOf Fit
 links-fit a b ls f t = fit-flat noLink (linkFields (a ∷ b ∷ [])) ls (λ i s. (f i s, (t i s, tt)))
 
-pub header-fits : (l : Lists) → Right l → l .nearLimit < 2 ^ 8 → Fit (header-of edition1 (pictureFrom l))
+pub header-fits : (l : Lists) → Right l → Fit (header-of (editionIn l) (pictureFrom l))
 unfolding headerFields headerFor headerWidths headerValues fieldsOf Fit pictureFrom
-header-fits l r near =
+header-fits l r =
+    let w = widths (known-for (l .edition)) in
     let s = r .sizes in
     let c = r .counts in
-    (omega arith, (omega (arith, s .size-most), (omega (arith, s .slots-most), (near, (omega (arith, c .endpoints-most), (omega (arith, c .links-most), (omega (arith, c .service-links-most), tt)))))))
+    (w .number-fits, (omega (arith, w .size-fits, s .size-most), (omega (arith, w .slots-fit, s .slots-most), (r .near-limit, (omega (arith, c .endpoints-most), (omega (arith, c .links-most), (omega (arith, c .service-links-most), tt)))))))
 
 module _ (l : Lists) (t : Typed l) (r : Right l) where
   abbrev p : Picture
   p = pictureFrom l
+
+  abbrev e : Edition
+  e = editionIn l
 
   slot-fits : (i : ℕ) → i < length (p .slots) → Fit (slotFields (getD (p .slots) i (slotOf p 0)))
   unfolding slotFields slotWidths fieldsOf Fit slotOf item headerFor
@@ -123,14 +128,14 @@ module _ (l : Lists) (t : Typed l) (r : Right l) where
       let m : i < length (l .weights) = omega (arith, length-zip endpointFrom (l .weights) (l .protected) (r .endpoints-even)) in
       rw (getD-zip endpointFrom (l .weights) (l .protected) 0 false (endpointOf p 0) i m (omega (arith, r .endpoints-even))) (t .weight i, (flag-fits _, tt))
 
-  pub picture-fits : Fit (pictureFields edition1 (pictureFrom l))
+  pub picture-fits : Fit (pictureFields (editionIn l) (pictureFrom l))
   unfolding pictureFields linkWidths serviceLinkWidths
   picture-fits =
-      let n = r .sizes .slots-most in
+      let n : headerFrom l .slots < 2 ^ e .«location_bits» = unfold headerFor in omega (arith, widths (known-for (l .edition)) .slots-fit, r .sizes .slots-most) in
       let d = r .counts .endpoints-most in
-      fit-append (header-of edition1 p) _ (header-fits l r (t .near-limit))
-      (fit-append (slots-of edition1 p) _ (fit-flat (slotOf p 0) slotFields (p .slots) slot-fits)
-      (fit-append (endpoints-of edition1 p) _ (fit-flat (endpointOf p 0) endpointFields (p .endpoints) endpoint-fits)
-      (fit-append (links-of edition1 p) (services-of edition1 p)
-      (links-fit 8 8 (p .links) (λ i s. omega (arith, r .links .from i s)) (λ i s. omega (arith, r .links .to i s)))
-      (links-fit 8 8 (p .serviceLinks) (λ i s. omega (arith, r .serviceLinks .location i s)) (λ i s. omega (arith, r .serviceLinks .endpoint-most i s))))))
+      fit-append (header-of e p) _ (header-fits l r)
+      (fit-append (slots-of e p) _ (fit-flat (slotOf p 0) slotFields (p .slots) slot-fits)
+      (fit-append (endpoints-of e p) _ (fit-flat (endpointOf p 0) endpointFields (p .endpoints) endpoint-fits)
+      (fit-append (links-of e p) (services-of e p)
+      (links-fit _ _ (p .links) (λ i s. omega (arith, r .links .from i s)) (λ i s. omega (arith, r .links .to i s)))
+      (links-fit _ 8 (p .serviceLinks) (λ i s. omega (arith, r .serviceLinks .location i s)) (λ i s. omega (arith, r .serviceLinks .endpoint-most i s))))))

@@ -1,9 +1,9 @@
 -- The number that lists are answered with is that of the first rule that they break. Assumes nothing.
 use mathlib.Core.Path.{_≡_, refl}
 use mathlib.Core.List.{List, [], _++_}
-use Prim.Native.Nat.{ℕ, _≤_}
+use Prim.Native.Nat.{ℕ, _^_, _≤_}
 use native.Mathlib.Omega.{arith}
-use lib.Dec.{eqb, ltb, eqb→eq, ltb→lt, nltb→le}
+use lib.Dec.{eqb, ltb, eqb→eq, ltb→lt, lt→ltb, nltb→le}
 use lib.ListN.{length}
 use Rattle.lists.specs.Lists.{first}
 use Rattle.lists.specs.Rules.{Rule, Judged, AllHold, more, none}
@@ -11,7 +11,6 @@ use Rattle.lists.proofs.Tests.{eq-T}
 use Rattle.lists.proofs.Faults.{judge-test, judge-right, judge-none, judged-all, all-judged, Numbered}
 use Rattle.lists.proofs.Rules.{hold-one}
 use Rattle.picture.specs.declared.Header.{Header}
-use Rattle.picture.specs.Layout.{edition1}
 use Rattle.picture.specs.Picture.{Picture}
 use Rattle.picture.specs.Faults.{sizesRight, countsRight, listFaults}
 use Rattle.picture.specs.Rules.{listRules}
@@ -20,25 +19,27 @@ use Rattle.picture.proofs.Kept.{holds-services, services-hold}
 use Rattle.write.specs.Columns.{Lists, pictureFrom, headerFor}
 use Rattle.write.specs.Rules.{sizeFor, handedRules, writeRules}
 use Rattle.write.specs.Faults.{handedFaults, writeFault}
-use Rattle.write.proofs.Right.{Right}
+use Rattle.write.proofs.Right.{editionIn, headerFrom, Right}
 
 module _ (l : Lists) where
   abbrev p : Picture
   p = pictureFrom l
 
   abbrev h : Header
-  h = headerFor p
+  h = headerFrom l
 
   -- ---- the rules, judged in order
 
   handed-judged : (rs : List Rule) (xs : List ℕ) → Judged rs (first xs) → Judged (handedRules l ++ rs) (first (handedFaults l ++ xs))
   unfolding handedRules handedFaults headerFor
   handed-judged rs xs j =
-      judge-right _ _ (eqb (length (l .states)) (length (l .near))) _ (λ z. absurd (omega arith)) (eqb→eq _ _) (eq-T _ _)
+      judge-right _ _ (eqb (l .edition) (editionIn l .number)) _ (λ z. absurd (omega arith)) (eqb→eq _ _) (eq-T _ _)
+      (judge-right _ _ (eqb (length (l .states)) (length (l .near))) _ (λ z. absurd (omega arith)) (eqb→eq _ _) (eq-T _ _)
       (judge-right _ _ (sizesRight h) _ (λ z. absurd (omega arith)) (right-sizes h) (sizes-right h)
+      (judge-right _ _ (ltb (l .nearLimit) (2 ^ editionIn l .«location_bits»)) _ (λ z. absurd (omega arith)) (ltb→lt _ _) (lt→ltb _ _)
       (judge-right _ _ (eqb (length (l .weights)) (length (l .protected))) _ (λ z. absurd (omega arith)) (eqb→eq _ _) (eq-T _ _)
       (judge-right _ _ (countsRight h) _ (λ z. absurd (omega arith)) (right-counts h) (counts-right h)
-      (lists-judged h p refl rs xs j))))
+      (lists-judged h p refl rs xs j))))))
 
   pub write-judged : (buf : List ℕ) → Judged (writeRules l buf) (writeFault l buf)
   unfolding writeRules writeFault
@@ -50,19 +51,20 @@ module _ (l : Lists) where
 
   hold-right : (rs : List Rule) → AllHold (handedRules l ++ rs) → Right l × AllHold rs
   unfolding handedRules listRules
-  hold-right rs (more a (more b (more c (more d (more e (more f r)))))) =
+  hold-right rs (more n (more a (more b (more k (more c (more d (more e (more f r)))))))) =
       let s = holds-services _ _ p rs r in
-      (record { slots-even = a; sizes = b; endpoints-even = c; counts = d; states = e; links = f; serviceLinks = s .0 }, s .1)
+      (record { edition = n; slots-even = a; sizes = b; near-limit = k; endpoints-even = c; counts = d; states = e; links = f; serviceLinks = s .0 }, s .1)
 
   right-hold : (rs : List Rule) → Right l → AllHold rs → AllHold (handedRules l ++ rs)
   unfolding handedRules listRules
   right-hold rs r a =
-      more (r .slots-even) (more (r .sizes) (more (r .endpoints-even) (more (r .counts) (more (r .states) (more (r .links) (services-hold _ _ _ rs (r .serviceLinks) a))))))
+      more (r .edition) (more (r .slots-even) (more (r .sizes) (more (r .near-limit) (more (r .endpoints-even) (more (r .counts) (more (r .states) (more (r .links)
+      (services-hold _ _ _ rs (r .serviceLinks) a))))))))
 
   -- no number is 0
   numbered : (rs : List Rule) → Numbered rs → Numbered (handedRules l ++ rs)
   unfolding handedRules
-  numbered rs m = (λ z. absurd (omega arith), (λ z. absurd (omega arith), (λ z. absurd (omega arith), (λ z. absurd (omega arith), lists-numbered h p rs m))))
+  numbered rs m = (λ z. absurd (omega arith), (λ z. absurd (omega arith), (λ z. absurd (omega arith), (λ z. absurd (omega arith), (λ z. absurd (omega arith), (λ z. absurd (omega arith), lists-numbered h p rs m))))))
 
   -- ---- where the number is 0
 

@@ -7,15 +7,16 @@ use lib.ListN.{length, length-map}
 use Rattle.lists.specs.Lists.{first}
 use Rattle.lists.proofs.Zips.{length-zip, map-zip-first}
 use Rattle.picture.specs.declared.Header.{Header}
-use Rattle.picture.specs.Layout.{edition1, pictureMax, sizeOf}
+use Rattle.picture.specs.Layout.{pictureMax, sizeOf}
 use Rattle.picture.specs.Inner.{Limited}
 use Rattle.picture.specs.Faults.{sizesRight, stateFault, listFaults}
 use Rattle.write.specs.Columns.{Lists, slotFrom, endpointFrom, linkFrom, pictureFrom, headerFor}
+use Rattle.picture.proofs.Editions.{known-for}
 use Rattle.picture.proofs.Long.{size-small}
 use Rattle.write.specs.Rules.{sizeFor}
 use Rattle.write.specs.Faults.{writeFault}
 use Rattle.write.specs.Inner.{columnsHeader, pairFault}
-use Rattle.write.proofs.Right.{Right}
+use Rattle.write.proofs.Right.{editionIn, headerFrom, Right}
 use Rattle.write.proofs.Judged.{write-right}
 
 -- the first faults of the states, of the links and of the service links
@@ -27,15 +28,16 @@ columnFaults l h =
     ∷ []
 
 module _ (l : Lists) (slots : length (l .states) ≡ length (l .near)) where
-  pub sizes-even : sizesRight (columnsHeader l) ≡ sizesRight (headerFor (pictureFrom l))
+  pub sizes-even : sizesRight (columnsHeader l) ≡ sizesRight (headerFrom l)
   unfolding sizesRight columnsHeader headerFor pictureFrom
   sizes-even = rw (length-zip slotFrom (l .states) (l .near) slots)
 
   module _ (endpoints : length (l .weights) ≡ length (l .protected)) where
-    pub header-even : columnsHeader l ≡ headerFor (pictureFrom l)
+    pub header-even : columnsHeader l ≡ headerFrom l
     unfolding columnsHeader headerFor pictureFrom
     header-even = λ i.
         record {
+          edition = editionIn l;
           «block_size» = l .blockSize;
           slots = sym (length-zip slotFrom (l .states) (l .near) slots) i;
           «near_limit» = l .nearLimit;
@@ -44,7 +46,7 @@ module _ (l : Lists) (slots : length (l .states) ≡ length (l .near)) where
           «service_links» = sym (length-map (l .serviceLinks) linkFrom) i;
         }
 
-    pub lists-even : columnFaults l (columnsHeader l) ≡ listFaults (headerFor (pictureFrom l)) (pictureFrom l)
+    pub lists-even : columnFaults l (columnsHeader l) ≡ listFaults (headerFrom l) (pictureFrom l)
     unfolding listFaults pairFault
     lists-even =
         let states = map-zip-first slotFrom (λ s. stateFault (s .state)) stateFault (λ x b. unfold slotFrom in refl) (l .states) (l .near) slots in
@@ -54,11 +56,11 @@ module _ (l : Lists) (slots : length (l .states) ≡ length (l .near)) where
 
 module _ {l : Lists} (r : Right l) where
   -- the header by the first columns is the picture's
-  pub right-header : columnsHeader l ≡ headerFor (pictureFrom l)
+  pub right-header : columnsHeader l ≡ headerFrom l
   right-header = header-even l (r .slots-even) (r .endpoints-even)
 
   pub right-limited : Limited (columnsHeader l)
-  right-limited = rw right-header (record { slots = r .sizes .slots-most; counts = r .counts })
+  right-limited = rw right-header (record { known = unfold headerFor in known-for (l .edition); slots = r .sizes .slots-most; counts = r .counts })
 
   pub right-size : sizeOf (columnsHeader l) ≡ sizeFor l
   unfolding sizeFor

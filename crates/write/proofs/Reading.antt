@@ -15,7 +15,7 @@ use Rattle.packing.specs.Holding.{span, Holds}
 use Rattle.packing.proofs.Fields.{holds-append, append-holds, holds-flat, flat-holds}
 use Rattle.picture.specs.declared.Edition.{Edition}
 use Rattle.picture.specs.declared.Header.{Header}
-use Rattle.picture.specs.Layout.{edition1, headerWidths, slotWidths, endpointWidths, linkWidths, serviceLinkWidths, fieldIn, slotsAt, endpointsAt, linksAt, serviceLinksAt}
+use Rattle.picture.specs.Layout.{editionNumber, editionOf, headerWidths, slotWidths, endpointWidths, linkWidths, serviceLinkWidths, fieldIn, slotsAt, endpointsAt, linksAt, serviceLinksAt}
 use Rattle.picture.specs.Picture.{Picture, headerIn, slotAt, endpointAt, linkAt, rows, pictureWith, headerOf, pictureOf}
 use Rattle.picture.specs.Faults.{pictureFault}
 use Rattle.picture.specs.Answers.{headerValues}
@@ -102,49 +102,55 @@ module _ {A : Type 0} {g : A → List Field} {w : ℕ} {f : ℕ → A} {bs : Lis
 -- ---- the parts of a picture, each at its place
 
 record Parts (e : Edition) (h : Header) (p : Picture) (bs : List ℕ) : Type 0 where
-  pub header : Holds bs 0 (headerFields e h)
+  pub header : Holds bs 0 (headerFields h)
   pub slots : Holds bs (slotsAt e) (slots-of e p)
   pub endpoints : Holds bs (endpointsAt h) (endpoints-of e p)
   pub links : Holds bs (linksAt h) (links-of e p)
   pub services : Holds bs (serviceLinksAt h) (services-of e p)
 
 module _ (e : Edition) (p : Picture) (bs : List ℕ) where
-  held-parts : Holds bs 0 (pictureFields e p) → Parts e (headerFor p) p bs
+  held-parts : Holds bs 0 (pictureFields e p) → Parts e (headerFor e p) p bs
   unfolding pictureFields
   held-parts h =
       let a = holds-append bs 0 (header-of e p) _ h in
       let b = holds-append bs (slotsAt e) (slots-of e p) _ (rw (header-ends e p) at (a .1)) in
-      let c = holds-append bs (endpointsAt (headerFor p)) (endpoints-of e p) _ (rw (slots-end e p) at (b .1)) in
-      let d = holds-append bs (linksAt (headerFor p)) (links-of e p) _ (rw (endpoints-end e p) at (c .1)) in
+      let c = holds-append bs (endpointsAt (headerFor e p)) (endpoints-of e p) _ (rw (slots-end e p) at (b .1)) in
+      let d = holds-append bs (linksAt (headerFor e p)) (links-of e p) _ (rw (endpoints-end e p) at (c .1)) in
       record { header = a .0; slots = b .0; endpoints = c .0; links = d .0; services = rw (links-end e p) at (d .1) }
 
-  parts-held : Parts e (headerFor p) p bs → Holds bs 0 (pictureFields e p)
+  parts-held : Parts e (headerFor e p) p bs → Holds bs 0 (pictureFields e p)
   unfolding pictureFields
   parts-held h =
       append-holds bs 0 (header-of e p) _ (h .header) (rw (header-ends e p)
       (append-holds bs (slotsAt e) (slots-of e p) _ (h .slots) (rw (slots-end e p)
-      (append-holds bs (endpointsAt (headerFor p)) (endpoints-of e p) _ (h .endpoints) (rw (endpoints-end e p)
-      (append-holds bs (linksAt (headerFor p)) (links-of e p) (services-of e p) (h .links) (rw (links-end e p) (h .services))))))))
+      (append-holds bs (endpointsAt (headerFor e p)) (endpoints-of e p) _ (h .endpoints) (rw (endpoints-end e p)
+      (append-holds bs (linksAt (headerFor e p)) (links-of e p) (services-of e p) (h .links) (rw (links-end e p) (h .services))))))))
 
 -- ---- bytes that hold a picture's fields say the picture
 
+-- the number of the edition is the first field of any header
+edition-first : (e : Edition) (bs : List ℕ) → editionNumber bs ≡ fieldIn bs (headerWidths e) 0 0
+unfolding editionNumber fieldIn headerWidths sum
+edition-first e bs = refl
+
 pub record Says (e : Edition) (p : Picture) (bs : List ℕ) : Type 0 where
-  pub edition : fieldIn bs (headerWidths e) 0 0 ≡ e .number
-  pub header : headerIn e bs ≡ headerFor p
-  pub picture : pictureWith (headerFor p) bs ≡ p
+  pub edition : editionNumber bs ≡ e .number
+  pub header : headerIn e bs ≡ headerFor e p
+  pub picture : pictureWith (headerFor e p) bs ≡ p
 
 module _ (e : Edition) (p : Picture) (bs : List ℕ) (held : Holds bs 0 (pictureFields e p)) where
-  parts : Parts e (headerFor p) p bs
+  parts : Parts e (headerFor e p) p bs
   parts = held-parts e p bs held
 
-  header-read : (k : ℕ) → k < 7 → fieldIn bs (headerWidths e) 0 k ≡ getD (e .number ∷ headerValues (headerFor p)) k 0
-  unfolding headerFields headerWidths headerValues
+  header-read : (k : ℕ) → k < 7 → fieldIn bs (headerWidths e) 0 k ≡ getD (headerValues (headerFor e p)) k 0
+  unfolding headerFields headerWidths headerValues headerFor
   header-read k s = fields-read bs (headerWidths e) _ 0 (parts .header) k s s
 
-  header-said : headerIn e bs ≡ headerFor p
-  unfolding headerIn headerValues
+  header-said : headerIn e bs ≡ headerFor e p
+  unfolding headerIn headerValues headerFor
   header-said i =
       record {
+        edition = e;
         «block_size» = header-read 1 (lit< tt) i;
         slots = header-read 2 (lit< tt) i;
         «near_limit» = header-read 3 (lit< tt) i;
@@ -153,7 +159,7 @@ module _ (e : Edition) (p : Picture) (bs : List ℕ) (held : Holds bs 0 (picture
         «service_links» = header-read 6 (lit< tt) i;
       }
 
-  picture-said : pictureWith (headerFor p) bs ≡ p
+  picture-said : pictureWith (headerFor e p) bs ≡ p
   unfolding pictureWith headerFor linkWidths serviceLinkWidths
   picture-said =
       let ss = rows-said (slot-row bs) _ (p .slots) (parts .slots) in
@@ -163,31 +169,34 @@ module _ (e : Edition) (p : Picture) (bs : List ℕ) (held : Holds bs 0 (picture
       λ i. record { blockSize = p .blockSize; nearLimit = p .nearLimit; slots = ss i; endpoints = cs i; links = ls i; serviceLinks = vs i }
 
   pub holds-picture : Says e p bs
-  holds-picture = record { edition = header-read 0 (lit< tt); header = header-said; picture = picture-said }
+  unfolding headerValues headerFor
+  holds-picture = record { edition = edition-first e bs ∙ header-read 0 (lit< tt); header = header-said; picture = picture-said }
 
 -- ---- and the other way
 
 -- the header of what the bytes say under a header
-pub header-kept : (e : Edition) (h : Header) (bs : List ℕ) → headerFor (pictureWith h bs) ≡ h
+pub header-kept : (h : Header) (bs : List ℕ) → headerFor (h .edition) (pictureWith h bs) ≡ h
 unfolding headerFor pictureWith
-header-kept e h bs =
+header-kept h bs =
     let ss = slots-length h bs in
     let cs = endpoints-length h bs in
     let ls = links-length h bs in
     let vs = services-length h bs in
-    λ i. record { «block_size» = h .«block_size»; slots = ss i; «near_limit» = h .«near_limit»; endpoints = cs i; links = ls i; «service_links» = vs i }
+    λ i. record { edition = h .edition; «block_size» = h .«block_size»; slots = ss i; «near_limit» = h .«near_limit»; endpoints = cs i; links = ls i; «service_links» = vs i }
 
-said-parts : (e : Edition) (bs : List ℕ) → fieldIn bs (headerWidths e) 0 0 ≡ e .number → Parts e (headerIn e bs) (pictureWith (headerIn e bs) bs) bs
+said-parts : (e : Edition) (bs : List ℕ) → editionNumber bs ≡ e .number → Parts e (headerIn e bs) (pictureWith (headerIn e bs) bs) bs
 unfolding pictureWith headerFields headerIn headerValues headerWidths linkWidths serviceLinkWidths range
 said-parts e bs n =
     record {
-      header = rw n at (fields-held bs (headerWidths e) 0);
+      header = rw (sym (edition-first e bs) ∙ n) at (fields-held bs (headerWidths e) 0);
       slots = rows-held (slot-row bs) _ _;
       endpoints = rows-held (endpoint-row bs) _ _;
       links = rows-held (link-row bs _ _) _ _;
       services = rows-held (link-row bs _ _) _ _;
     }
 
-pub accepted-held : (bs : List ℕ) → pictureFault bs ≡ 0 → Holds bs 0 (pictureFields edition1 (pictureOf bs))
-unfolding pictureOf headerOf
-accepted-held bs z = parts-held edition1 (pictureOf bs) bs (rw (header-kept edition1 (headerOf bs) bs) (said-parts edition1 bs (accepted-kept bs z .edition)))
+pub accepted-held : (bs : List ℕ) → pictureFault bs ≡ 0 → Holds bs 0 (pictureFields (editionOf bs) (pictureOf bs))
+unfolding pictureOf headerOf headerIn
+accepted-held bs z =
+    let e = editionOf bs in
+    parts-held e (pictureOf bs) bs (rw (header-kept (headerOf bs) bs) (said-parts e bs (accepted-kept bs z .edition)))

@@ -6,7 +6,7 @@ use native.Mathlib.Omega.{arith}
 use lib.ListN.{length, replicate, length-replicate}
 use Rattle.picture.specs.Inner.{Read}
 use Rattle.picture.proofs.Answering.{accepted-read, refused-fault}
-use Rattle.picture.proofs.Facts.{read-sizes}
+use Rattle.picture.proofs.Facts.{read-limited}
 use Rattle.evidence.specs.Layout.{evidenceMax}
 use Rattle.evidence.specs.Canonical.{evidenceOf}
 use Rattle.evidence.specs.Calls.{lengthFor}
@@ -85,7 +85,7 @@ put-lines-requires : tie.Need-put-lines-requires
 put-lines-requires c κs =
     let w = c .before .before .before in
     let r = accepted (read (planned w)) in
-    (read-sizes _ _ r .slots-most, rw (shown w .shown, evidence-reads _ (r .accepted) .count) (candidates-few _ (r .accepted)), search needs)
+    (read-limited _ _ r, rw (shown w .shown, evidence-reads _ (r .accepted) .count) (candidates-few _ (r .accepted)), search needs)
 
 returns : tie.Need-returns
 returns c =
@@ -97,7 +97,8 @@ returns-2 : tie.Need-returns-2
 returns-2 c =
     let w = c .before .before .before .before in
     let r = accepted (read (planned w)) in
-    text-whole (c .put-lines .ensures) (ap (evidenceLines (read (planned w) .h .given .0 .0 .slots)) (shown w .shown) ∙ evidence-listed r)
+    let h = read (planned w) .h .given .0 .0 in
+    text-whole (c .put-lines .ensures) (ap (evidenceLines (h .edition) (h .slots)) (shown w .shown) ∙ evidence-listed r)
 
 pub list-spec : {M : Type 1} → statement M
 list-spec =

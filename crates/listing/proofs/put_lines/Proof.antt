@@ -13,10 +13,10 @@ use Rattle.listing.proofs.put_lines.Statement.{statement}
 use Rattle.listing.proofs.put_lines.Tie as tie
 
 abbrev Inv-loop : tie.InvT-loop
-Inv-loop text₀ ev n head at₀ i₀ text at i = (i ≤ head .count) × Telling n ev text₀ at₀ text at i
+Inv-loop text₀ ev h head at₀ i₀ text at i = (i ≤ head .count) × Telling (h .edition) (h .slots) ev text₀ at₀ text at i
 
 abbrev μ-loop : tie.MeasureT-loop
-μ-loop text₀ ev n head at₀ i₀ text at i = head .count - i
+μ-loop text₀ ev h head at₀ i₀ text at i = head .count - i
 
 -- ---- the places of the code, each from the next
 
@@ -57,13 +57,13 @@ put-served-line-requires : tie.Need-put-served-line-requires Inv-loop μ-loop
 put-served-line-requires c κs = rw (c .before .head-of .ensures) (omega (arith, head-below (c .before .before .before .before .args .ev .now)))
 
 loop-holds : tie.Need-loop-holds Inv-loop μ-loop
-loop-holds c = let s = c .before .before in (omega arith, telling-begun _ _ (rw (headed s .head-of .ensures) at (s .put-served-line .ensures)))
+loop-holds c = let s = c .before .before in (omega arith, telling-begun _ _ _ (rw (headed s .head-of .ensures) at (s .put-served-line .ensures)))
 
 section-of-requires : tie.Need-section-of-requires Inv-loop μ-loop
-section-of-requires c κs = omega (arith, few (c .before .before .before))
+section-of-requires c κs = let l = c .before .before .before in (start l .pre .0, omega (arith, few l))
 
 put-block-line-requires : tie.Need-put-block-line-requires Inv-loop μ-loop
-put-block-line-requires c κs = let l = turn c in rw (c .section-of .ensures) (omega (arith, section-below (ev l) (start l .args .n) (l .loop .i), room l))
+put-block-line-requires c κs = let l = turn c in rw (c .section-of .ensures) (omega (arith, section-below (ev l) (start l .args .h .edition) (start l .args .h .slots) (l .loop .i), room l))
 
 add-i : tie.Need-add-i Inv-loop μ-loop
 add-i c = search needs
@@ -74,7 +74,7 @@ loop-less c = search needs
 loop-again : tie.Need-loop-again Inv-loop μ-loop
 loop-again c =
     let b = c .before .before in
-    (omega arith, telling-next _ _ _ (turn (b .before) .loop .inv .1) (rw (b .before .section-of .ensures) at (b .put-block-line .ensures)))
+    (omega arith, telling-next _ _ _ _ (turn (b .before) .loop .inv .1) (rw (b .before .section-of .ensures) at (b .put-block-line .ensures)))
 
 put-choice-line-requires : tie.Need-put-choice-line-requires Inv-loop μ-loop
 put-choice-line-requires c κs = let l = c .before .before .before in rw (headed (served l) .head-of .ensures) (omega (arith, head-below (ev l), room l))
@@ -87,7 +87,7 @@ returns c =
     let k = c .before .before in
     let l = ended k in
     let all : l .loop .i ≡ headed (served l) .head-of .result .count = omega (arith, l .loop .inv .0, k .before .before .if1 .left) in
-    telling-ended _ _ (headed (served l) .head-of .ensures) (served l .put-served-line .ensures) (l .loop .inv .1) all (k .put-choice-line .ensures)
+    telling-ended _ _ _ (headed (served l) .head-of .ensures) (served l .put-served-line .ensures) (l .loop .inv .1) all (k .put-choice-line .ensures)
 
 pub put-lines-spec : {M : Type 1} → statement M
 put-lines-spec =

@@ -10,7 +10,7 @@ use Rattle.bits.proofs.Pushing.{flushed-whole}
 use Rattle.lists.specs.Lists.{sum}
 use Rattle.packing.specs.Holding.{Put}
 use Rattle.picture.specs.declared.Places.{Places}
-use Rattle.picture.specs.Layout.{edition1, headerWidths, endpointWidths, linkWidths, serviceLinkWidths, slotsAt, endpointsAt, linksAt, serviceLinksAt, endAt}
+use Rattle.picture.specs.Layout.{endpointWidths, linkWidths, serviceLinkWidths, slotWidths, slotsAt, endpointsAt, linksAt, serviceLinksAt, endAt}
 use Rattle.picture.specs.Inner.{placesOf}
 use Rattle.picture.proofs.Starts.{ordered}
 use Rattle.write.specs.Columns.{Lists, handed, pictureFrom}
@@ -31,7 +31,7 @@ start c = c .before .before .before .before .before .before
 abbrev found : tie.After-put-header → tie.After-find-places
 found c = c .before .before
 
-abbrev headed : tie.After-push-slots → tie.After-put-header
+abbrev headed : tie.After-slots-at → tie.After-put-header
 headed c = c .before .before .before .before
 
 abbrev slotted : tie.After-push-endpoints → tie.After-push-slots
@@ -75,52 +75,59 @@ end-at c = ap (λ (p : Places). p .end) (places c)
 
 -- ---- each list stands behind the one before, between the layout's places
 
-slots : (c : tie.After-push-slots) → let f = found (headed c) in let h = start f .args .h in
-    Follows (headed c .put-header .last .0) (slotsAt edition1) 0 (slots-of edition1 (pictureFrom (lists f))) (c .push-slots .last .0) (endpointsAt h) (c .push-slots .result)
-unfolding under handed pictureFrom slotsAt headerWidths sum
-slots c = follows-at (c .push-slots .ensures) refl (slots-to (ready (found (headed c))))
+slots : (c : tie.After-push-slots) → let f = found (headed (c .before)) in let h = start f .args .h in
+    Follows (headed (c .before) .put-header .last .0) (slotsAt (h .edition)) 0 (slots-of (h .edition) (pictureFrom (lists f))) (c .push-slots .last .0) (endpointsAt h) (c .push-slots .result)
+unfolding under handed pictureFrom
+slots c =
+    let k = c .before in
+    let f = found (headed k) in
+    let at = k .slots-at .ensures in
+    follows-at (c .push-slots .ensures) at (ap (λ (n : ℕ). n + length (start f .args .states .now) * sum slotWidths) at ∙ slots-to (ready f))
 
-endpoints : (c : tie.After-push-endpoints) → let s = slotted c in let f = found (headed s) in let h = start f .args .h in
-    Follows (s .push-slots .last .0) (endpointsAt h) (s .push-slots .result) (endpoints-of edition1 (pictureFrom (lists f))) (c .push-endpoints .last .0) (linksAt h)
+endpoints : (c : tie.After-push-endpoints) → let s = slotted c in let f = found (headed (s .before)) in let h = start f .args .h in
+    Follows (s .push-slots .last .0) (endpointsAt h) (s .push-slots .result) (endpoints-of (h .edition) (pictureFrom (lists f))) (c .push-endpoints .last .0) (linksAt h)
     (c .push-endpoints .result)
 unfolding under handed pictureFrom
 endpoints c =
-    let f = found (headed (slotted c)) in
+    let f = found (headed (slotted c .before)) in
     follows-at (c .push-endpoints .ensures) (endpoints-at f) (ap (λ (n : ℕ). n + length (start f .args .weights .now) * sum endpointWidths) (endpoints-at f) ∙ endpoints-to (ready f))
 
-links : (c : tie.After-push-links) → let e = ended c in let f = found (headed (slotted e)) in let h = start f .args .h in
-    Follows (e .push-endpoints .last .0) (linksAt h) (e .push-endpoints .result) (links-of edition1 (pictureFrom (lists f))) (c .push-links .last .0) (serviceLinksAt h)
+links : (c : tie.After-push-links) → let e = ended c in let f = found (headed (slotted e .before)) in let h = start f .args .h in
+    Follows (e .push-endpoints .last .0) (linksAt h) (e .push-endpoints .result) (links-of (h .edition) (pictureFrom (lists f))) (c .push-links .last .0) (serviceLinksAt h)
     (c .push-links .result)
-unfolding under handed pictureFrom linkWidths sum
+unfolding under handed pictureFrom linkWidths
 links c =
-    let f = found (headed (slotted (ended c))) in
-    follows-at (c .push-links .ensures) (links-at f) (ap (λ (n : ℕ). n + length (start f .args .links .now) * sum (linkWidths edition1)) (links-at f) ∙ links-to (ready f))
+    let f = found (headed (slotted (ended c) .before)) in
+    let w = start f .args .h .edition .«location_bits» in
+    follows-at (c .push-links .ensures) (links-at f) (ap (λ (n : ℕ). n + length (start f .args .links .now) * (w + w)) (links-at f) ∙ links-to (ready f))
 
-services : (c : tie.After-push-links2) → let k = linked c in let f = found (headed (slotted (ended k))) in let h = start f .args .h in
-    Follows (k .push-links .last .0) (serviceLinksAt h) (k .push-links .result) (services-of edition1 (pictureFrom (lists f))) (c .push-links2 .last .0) (endAt h)
+services : (c : tie.After-push-links2) → let k = linked c in let f = found (headed (slotted (ended k) .before)) in let h = start f .args .h in
+    Follows (k .push-links .last .0) (serviceLinksAt h) (k .push-links .result) (services-of (h .edition) (pictureFrom (lists f))) (c .push-links2 .last .0) (endAt h)
     (c .push-links2 .result)
-unfolding under handed pictureFrom serviceLinkWidths sum
+unfolding under handed pictureFrom serviceLinkWidths
 services c =
-    let f = found (headed (slotted (ended (linked c)))) in
-    follows-at (c .push-links2 .ensures) (services-at f) (ap (λ (n : ℕ). n + length (start f .args .service-links .now) * sum (serviceLinkWidths edition1)) (services-at f) ∙ services-to (ready f))
+    let f = found (headed (slotted (ended (linked c)) .before)) in
+    let w = start f .args .h .edition .«location_bits» in
+    follows-at (c .push-links2 .ensures) (services-at f) (ap (λ (n : ℕ). n + length (start f .args .service-links .now) * (w + 8)) (services-at f) ∙ services-to (ready f))
 
 -- the header and the four lists stand in the buffer
-put-all : (c : tie.After-push-links2) → let f = found (headed (slotted (ended (linked c)))) in
-    Put (start f .args .buf .now) 0 (pictureFields edition1 (pictureFrom (lists f))) (flushed (c .push-links2 .last .0) (endAt (start f .args .h)) (c .push-links2 .result))
+put-all : (c : tie.After-push-links2) → let f = found (headed (slotted (ended (linked c)) .before)) in
+    Put (start f .args .buf .now) 0 (pictureFields (start f .args .h .edition) (pictureFrom (lists f))) (flushed (c .push-links2 .last .0) (endAt (start f .args .h)) (c .push-links2 .result))
 put-all c =
     let k = linked c in
     let e = ended k in
     let s = slotted e in
-    picture-put (ready (found (headed s))) (headed s .put-header .ensures) (slots s) (endpoints e) (links k) (services c)
+    let d = headed (s .before) in
+    picture-put (ready (found d)) (d .put-header .ensures) (slots s) (endpoints e) (links k) (services c)
 
 -- the buffer keeps its length
-slots-long : (c : tie.After-push-slots) → length (c .push-slots .last .0) ≡ length (start (found (headed c)) .args .buf .now)
-slots-long c = c .push-slots .ensures .long ∙ headed c .put-header .ensures .long
+slots-long : (c : tie.After-push-slots) → length (c .push-slots .last .0) ≡ length (start (found (headed (c .before))) .args .buf .now)
+slots-long c = c .push-slots .ensures .long ∙ headed (c .before) .put-header .ensures .long
 
-endpoints-long : (c : tie.After-push-endpoints) → length (c .push-endpoints .last .0) ≡ length (start (found (headed (slotted c))) .args .buf .now)
+endpoints-long : (c : tie.After-push-endpoints) → length (c .push-endpoints .last .0) ≡ length (start (found (headed (slotted c .before))) .args .buf .now)
 endpoints-long c = c .push-endpoints .ensures .long ∙ slots-long (slotted c)
 
-links-long : (c : tie.After-push-links) → length (c .push-links .last .0) ≡ length (start (found (headed (slotted (ended c)))) .args .buf .now)
+links-long : (c : tie.After-push-links) → length (c .push-links .last .0) ≡ length (start (found (headed (slotted (ended c) .before))) .args .buf .now)
 links-long c = c .push-links .ensures .long ∙ endpoints-long (ended c)
 
 -- ---- the answers
@@ -131,43 +138,46 @@ find-places-requires c κs = ready-limited (c .before .before .before .before .b
 put-header-requires : tie.Need-put-header-requires
 put-header-requires c κs = header-ready (ready (c .before)) refl
 
+slots-at-requires : tie.Need-slots-at-requires
+slots-at-requires c κs = ready-limited (ready (found (c .before .before .before))) .known
+
 push-slots-requires : tie.Need-push-slots-requires
-unfolding under handed slotsAt headerWidths sum
+unfolding under handed
 push-slots-requires c κs =
-    let h = c .before .before .before in
-    slots-ready (ready (found h)) (h .put-header .ensures .long)
+    let d = headed c in
+    rw (c .slots-at .ensures) (slots-ready (ready (found d)) (d .put-header .ensures .long))
 
 push-endpoints-requires : tie.Need-push-endpoints-requires
 unfolding under handed
 push-endpoints-requires c κs =
     let s = c .before .before .before in
-    let f = found (headed s) in
+    let f = found (headed (s .before)) in
     rw (endpoints-at f) (endpoints-ready (ready f) (slots-long s) (slots s .small))
 
 push-links-requires : tie.Need-push-links-requires
 unfolding under handed
 push-links-requires c κs =
     let e = c .before .before .before in
-    let f = found (headed (slotted e)) in
+    let f = found (headed (slotted e .before)) in
     rw (links-at f) (links-ready (ready f) (endpoints-long e) (endpoints e .small))
 
 push-links-requires-2 : tie.Need-push-links-requires-2
 unfolding under handed
 push-links-requires-2 c κs =
     let k = c .before .before .before in
-    let f = found (headed (slotted (ended k))) in
+    let f = found (headed (slotted (ended k) .before)) in
     rw (services-at f) (services-ready (ready f) (links-long k) (links k .small))
 
 -- the end is a small number, and the fill goes up to the last byte
 add-fill : tie.Need-add-fill
 add-fill c =
-    let f = found (headed (slotted (ended (linked (c .before .before))))) in
-    omega (arith, end-at f, ordered _ (ready-limited (ready f)) .small)
+    let f = found (headed (slotted (ended (linked (c .before .before))) .before)) in
+    omega (arith, end-at f, ordered _ (ready-limited (ready f)) .most)
 
 mul-fill : tie.Need-mul-fill
 mul-fill c =
-    let f = found (headed (slotted (ended (linked (c .before .before))))) in
-    omega (arith, end-at f, ordered _ (ready-limited (ready f)) .small)
+    let f = found (headed (slotted (ended (linked (c .before .before))) .before)) in
+    omega (arith, end-at f, ordered _ (ready-limited (ready f)) .most)
 
 sub-fill : tie.Need-sub-fill
 sub-fill c = search needs
@@ -175,11 +185,11 @@ sub-fill c = search needs
 push-field-requires : tie.Need-push-field-requires
 push-field-requires c κs =
     let k = c .before .before .before in
-    let f = found (headed (slotted (ended (linked k)))) in
+    let f = found (headed (slotted (ended (linked k)) .before)) in
     let long = k .push-links2 .ensures .long ∙ links-long (linked k) in
     record {
       room = omega (arith, end-at f, ready-ends (ready f), long);
-      low = omega (arith, end-at f, ordered _ (ready-limited (ready f)) .small);
+      low = omega (arith, end-at f, ordered _ (ready-limited (ready f)) .most);
       wide = omega arith;
       few = rw (end-at f) (services k .small);
       value = pow-pos _;
@@ -192,7 +202,7 @@ returns : tie.Need-returns
 returns c =
     let w = c .before .before in
     let k = w .before .before .before .before in
-    let f = found (headed (slotted (ended (linked k)))) in
+    let f = found (headed (slotted (ended (linked k)) .before)) in
     let end = f .find-places .result .end in
     let whole = flushed-whole (w .push-field .last .0) (end + ((end + 7) / 8 * 8 - end)) (w .push-field .result) (omega arith) in
     let made =
@@ -207,6 +217,7 @@ put-picture-spec =
     (tie.spec
     find-places-requires
     put-header-requires
+    slots-at-requires
     push-slots-requires
     push-endpoints-requires
     push-links-requires
