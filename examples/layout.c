@@ -13,8 +13,9 @@
 #define ROWS(list) (sizeof(list) / sizeof(list)[0])
 
 /* Four slots in blocks of two, all held and near. Endpoint 1 has its two feeders in block 0, endpoint 2 has one in block 1. */
+static const uint32_t edition = 1;
 static const uint32_t block_size = 2;
-static const uint8_t near_limit = 2;
+static const uint16_t near_limit = 2;
 static const uint8_t states[] = {0, 0, 0, 0};
 static const bool is_near[] = {true, true, true, true};
 static const uint16_t weights[] = {30, 12};
@@ -59,8 +60,8 @@ static int plan(size_t length)
 
 static int write_and_plan(void)
 {
-    int32_t answer = blockplan_write(block_size, near_limit, states, ROWS(states), is_near, ROWS(is_near), weights, ROWS(weights), is_protected,
-                                     ROWS(is_protected), links, ROWS(links), service_links, ROWS(service_links), picture, sizeof picture);
+    int32_t answer = blockplan_write(edition, block_size, near_limit, states, ROWS(states), is_near, ROWS(is_near), weights, ROWS(weights),
+                                     is_protected, ROWS(is_protected), links, ROWS(links), service_links, ROWS(service_links), picture, sizeof picture);
 
     if (!done_or_told("write", answer)) {
         return 0;

@@ -10,8 +10,8 @@
 
 #include "blockplan.h"
 
-#if BLOCKPLAN_EVIDENCE_BYTES(BLOCKPLAN_SLOTS_MAX, BLOCKPLAN_BLOCKS_MAX) != BLOCKPLAN_EVIDENCE_MAX
-#error "the longest evidence is that of all slots and all blocks"
+#if BLOCKPLAN_EVIDENCE_BYTES(2, 5 * BLOCKPLAN_BLOCKS_MAX, BLOCKPLAN_BLOCKS_MAX) != BLOCKPLAN_EVIDENCE_MAX
+#error "the longest evidence is that of all blocks, with five slots each, in edition 2"
 #endif
 
 /* One byte more than the longest picture has, so that a longer file is told from it. */

@@ -38,19 +38,23 @@ extern "C" {
 #endif
 
 /*
- * THE PICTURE. Fields are packed most significant bit first, without gaps:
+ * THE PICTURE. There are two editions, which differ in the width w of a location: 8 bits in edition 1, and 12 in edition 2. Fields are packed
+ * most significant bit first, without gaps:
  *
- *   header          edition 4 (value 1), block size 4, slots n 8, near limit 8, endpoints D 8, links L 12, service links S 12
+ *   header          edition 4, block size 4, slots n w, near limit w, endpoints D 8, links L 12, service links S 12
  *   n slots         state 2 (0 held, 1 recoverable, 2 freed), near 1
  *   D endpoints     weight 16, protected 1
- *   L links         from 8, to 8 (locations, 0 to n)
- *   S service links location 8 (0 to n), endpoint 8 (1 to D)
+ *   L links         from w, to w (locations, 0 to n)
+ *   S service links location w (0 to n), endpoint 8 (1 to D)
  *   zero bits up to the byte, then the end
  *
- * n is a multiple of the block size. A buffer of BLOCKPLAN_PICTURE_MAX bytes is long enough for every picture. The limits:
+ * n is a multiple of the block size. A buffer of BLOCKPLAN_PICTURE_MAX bytes is long enough for every picture of either edition. The limits,
+ * where one argument is the edition, 1 or 2:
  */
 #define BLOCKPLAN_BLOCK_SIZE_MAX 15
-#define BLOCKPLAN_SLOTS_MAX 320
+#define BLOCKPLAN_SLOTS_MAX_OF(edition) ((edition) == 2 ? 320 : 240)
+#define BLOCKPLAN_NEAR_LIMIT_MAX_OF(edition) ((edition) == 2 ? 4095 : 255)
+#define BLOCKPLAN_SLOTS_MAX 320 /* in either edition */
 #define BLOCKPLAN_BLOCKS_MAX 60
 #define BLOCKPLAN_ENDPOINTS_MAX 200
 #define BLOCKPLAN_LINKS_MAX 2000 /* links, and as many service links */
@@ -59,16 +63,22 @@ extern "C" {
 /*
  * EVIDENCE, all of it whole bytes but for the first:
  *
- *   head            edition 4 (value 1), verdict 4 (1 chosen, 0 none), block 8, candidates C 8, served weight 24, loss 24
- *   forest          n times parent 8, depth 8: how each slot is reached; 0 and 0 where it is not
+ *   head            edition 4 (the picture's), verdict 4 (1 chosen, 0 none), block 8, candidates C 8, served weight 24, loss 24
+ *   forest          n times parent w, depth w, which are whole bytes together: how each slot is reached; 0 and 0 where it is not
  *   C sections      block 8, loss 24, mark 8 (1 where it cuts a protected endpoint), and the forest without that block
  *
- * For "none", block and loss are 0. A buffer of BLOCKPLAN_EVIDENCE_MAX bytes is long enough for every picture.
+ * For "none", block and loss are 0. A buffer of BLOCKPLAN_EVIDENCE_MAX bytes is long enough for every picture of either edition.
  */
-#define BLOCKPLAN_EVIDENCE_BYTES(slots, candidates) (9 + 2 * (slots) + (candidates) * (5 + 2 * (slots)))
+#define BLOCKPLAN_NODE_BYTES(edition) ((edition) == 2 ? 3 : 2)
+#define BLOCKPLAN_FOREST_BYTES(edition, slots) (BLOCKPLAN_NODE_BYTES(edition) * (slots))
+#define BLOCKPLAN_EVIDENCE_BYTES(edition, slots, candidates) \
+    (9 + BLOCKPLAN_FOREST_BYTES(edition, slots) + (candidates) * (5 + BLOCKPLAN_FOREST_BYTES(edition, slots)))
 #define BLOCKPLAN_EVIDENCE_MAX 55209
 
-/* The fields of the head, from a pointer to the first byte of evidence that choose wrote or check passed: there are nine bytes at least. */
+/* The edition that a picture or evidence says, from a pointer to its first byte. */
+#define BLOCKPLAN_EDITION(bytes) ((unsigned)(bytes)[0] >> 4)
+
+/* The other fields of the head, from a pointer to the first byte of evidence that choose wrote or check passed: there are nine bytes at least. */
 #define BLOCKPLAN_VERDICT(evidence) ((unsigned)(evidence)[0] & 15u)
 #define BLOCKPLAN_BLOCK(evidence) ((uint32_t)(evidence)[1])
 #define BLOCKPLAN_CANDIDATES(evidence) ((uint32_t)(evidence)[2])
@@ -77,17 +87,18 @@ extern "C" {
 #define BLOCKPLAN_24_BITS(at) ((uint32_t)(at)[0] << 16 | (uint32_t)(at)[1] << 8 | (uint32_t)(at)[2])
 
 /* The most stack that a call takes, in bytes. */
-#define BLOCKPLAN_STACK 32768
+#define BLOCKPLAN_STACK 57344
 
 /*
  * The numbers of refusals. Every call judges the picture first (1 to 7, 17 and 18, in the page's order: the picture's numbers); write, which is
- * handed the lists of one, judges these by the same rules in the same order (3 to 6, 17 and 18).
+ * handed the lists of one, judges these by the same rules in the same order (2 to 6, 17 and 18).
  */
 enum blockplan_refusal {
-    BLOCKPLAN_REFUSED_SHORT = 1,             /* the picture is shorter than a header, or than its header says */
-    BLOCKPLAN_REFUSED_EDITION = 2,           /* its edition is not 1 */
+    BLOCKPLAN_REFUSED_SHORT = 1,             /* the picture is shorter than its edition's header, or than that says */
+    BLOCKPLAN_REFUSED_EDITION = 2,           /* the edition is neither 1 nor 2 */
     BLOCKPLAN_REFUSED_BLOCKS = 3,            /* block size, slots or number of blocks out of range, or slots not a multiple of the block size;
-                                                write: also where states and near bits differ in number */
+                                                write: also where states and near bits differ in number, or the near
+                                                limit is too wide for its field */
     BLOCKPLAN_REFUSED_COUNTS = 4,            /* number of endpoints, links or service links out of range;
                                                 write: also where weights and protected bits differ in number */
     BLOCKPLAN_REFUSED_STATE = 5,             /* a slot in state 3; write: in state 3 or above */
@@ -133,18 +144,21 @@ int32_t blockplan_reload(uint8_t *picture, size_t picture_length, uint32_t block
 int32_t blockplan_free(uint8_t *picture, size_t picture_length, uint32_t block);
 
 /*
- * Writes the picture of a network that is told by lists, as a layout editor has them, into the buffer and returns its length; the bytes beyond stay
- * as they were. The other calls accept the picture. Each list is a pointer and its number of rows, and these numbers are n, D, L and S:
+ * Writes the picture of a network that is told by lists, as a layout editor has them, in an edition into the buffer and returns its length; the
+ * bytes beyond stay as they were. The other calls accept the picture. Each list is a pointer and its number of rows, and these numbers are n, D, L
+ * and S:
  *
  *   slots 1 to n      states (0 held, 1 recoverable, 2 freed) and is_near, a row of each for a slot
  *   endpoints 1 to D  weights and is_protected, a row of each for an endpoint
  *   L links           from, to (locations, 0 to n)
  *   S service links   location (0 to n), endpoint (1 to D)
  *
- * The near limit may be any number of its type. Refuses, in this order, with
+ * Refuses, in this order, with
  *
+ *   2   where the edition is neither 1 nor 2
  *   3   where state_count and near_count differ; where the block size is 0 or above BLOCKPLAN_BLOCK_SIZE_MAX, or n is 0, above
- *       BLOCKPLAN_SLOTS_MAX or no multiple of the block size, or there are more than BLOCKPLAN_BLOCKS_MAX blocks
+ *       BLOCKPLAN_SLOTS_MAX_OF(edition) or no multiple of the block size, or there are more than BLOCKPLAN_BLOCKS_MAX blocks; where the near limit
+ *       is above BLOCKPLAN_NEAR_LIMIT_MAX_OF(edition)
  *   4   where weight_count and protected_count differ; where D is above BLOCKPLAN_ENDPOINTS_MAX, or L or S above BLOCKPLAN_LINKS_MAX
  *   5   where a state is above 2
  *   6   where an end of a link is above n
@@ -154,10 +168,10 @@ int32_t blockplan_free(uint8_t *picture, size_t picture_length, uint32_t block);
  *
  * Rows of links that are not const take a cast, (const uint16_t (*)[2])links, in C before C23.
  */
-int32_t blockplan_write(uint32_t block_size, uint8_t near_limit, const uint8_t *states, size_t state_count, const bool *is_near, size_t near_count,
-                        const uint16_t *weights, size_t weight_count, const bool *is_protected, size_t protected_count,
-                        const uint16_t (*links)[2], size_t link_count, const uint16_t (*service_links)[2], size_t service_link_count,
-                        uint8_t *picture, size_t picture_length);
+int32_t blockplan_write(uint32_t edition, uint32_t block_size, uint16_t near_limit, const uint8_t *states, size_t state_count,
+                        const bool *is_near, size_t near_count, const uint16_t *weights, size_t weight_count, const bool *is_protected,
+                        size_t protected_count, const uint16_t (*links)[2], size_t link_count, const uint16_t (*service_links)[2],
+                        size_t service_link_count, uint8_t *picture, size_t picture_length);
 
 #ifdef __cplusplus
 }

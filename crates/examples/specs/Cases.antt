@@ -1,7 +1,9 @@
--- The pictures of document 01, "Field examples": A, and its variants; ties; and wide blocks. Assumes nothing.
+-- The pictures of document 01, "Field examples": A, and its variants; ties; wide blocks; and edition 2. Assumes nothing.
 use mathlib.Core.Bool.{Bool, true, false}
-use mathlib.Core.List.{List, [], _∷_}
+use mathlib.Core.List.{List, [], _∷_, _++_}
 use Prim.Native.Nat.{ℕ}
+use lib.ListN.{replicate}
+use Rattle.lists.specs.Lists.{flat}
 use Rattle.write.specs.Columns.{Lists, handed}
 
 -- A: block size 2, four slots, near limit 2, all held and near; endpoint 1 weighs 30 and is protected, endpoint 2 weighs 12; links 0-1,
@@ -9,15 +11,15 @@ use Rattle.write.specs.Columns.{Lists, handed}
 unfoldable pub caseA : List ℕ
 caseA = 0x12 ∷ 0x04 ∷ 0x02 ∷ 0x02 ∷ 0x00 ∷ 0x40 ∷ 0x03 ∷ 0x24 ∷ 0x90 ∷ 0x01 ∷ 0xE8 ∷ 0x00 ∷ 0x60 ∷ 0x00 ∷ 0x04 ∷ 0x00 ∷ 0x08 ∷ 0x04 ∷ 0x0C ∷ 0x00 ∷ 0x10 ∷ 0x04 ∷ 0x04 ∷ 0x08 ∷ 0x04 ∷ 0x10 ∷ 0x08 ∷ []
 
--- A's lists, with these columns of near slots and of protected endpoints
-unfoldable pub listsWith : List Bool → List Bool → Lists
-listsWith near protected =
-    handed 2 2 (0 ∷ 0 ∷ 0 ∷ 0 ∷ []) near (30 ∷ 12 ∷ []) protected
+-- A's lists, with this edition and these columns of near slots and of protected endpoints
+unfoldable pub listsWith : ℕ → List Bool → List Bool → Lists
+listsWith edition near protected =
+    handed edition 2 2 (0 ∷ 0 ∷ 0 ∷ 0 ∷ []) near (30 ∷ 12 ∷ []) protected
     ((0 ∷ 1 ∷ []) ∷ (0 ∷ 2 ∷ []) ∷ (1 ∷ 3 ∷ []) ∷ (0 ∷ 4 ∷ []) ∷ []) ((1 ∷ 1 ∷ []) ∷ (2 ∷ 1 ∷ []) ∷ (4 ∷ 2 ∷ []) ∷ [])
 
--- A's lists as they are
-unfoldable pub listsA : Lists
-listsA = listsWith (true ∷ true ∷ true ∷ true ∷ []) (true ∷ false ∷ [])
+-- A's lists as they are, in this edition
+unfoldable pub listsA : ℕ → Lists
+listsA edition = listsWith edition (true ∷ true ∷ true ∷ true ∷ []) (true ∷ false ∷ [])
 
 -- B: endpoint 1 unprotected
 unfoldable pub caseB : List ℕ
@@ -84,6 +86,38 @@ caseEqual = 0x11 ∷ 0x02 ∷ 0x02 ∷ 0x04 ∷ 0x00 ∷ 0x20 ∷ 0x04 ∷ 0x24 
 unfoldable pub caseWide : List ℕ
 caseWide = 0x1F ∷ 0x1E ∷ 0x1E ∷ 0x02 ∷ 0x00 ∷ 0x40 ∷ 0x04 ∷ 0x24 ∷ 0x92 ∷ 0x49 ∷ 0x24 ∷ 0x92 ∷ 0x49 ∷ 0x24 ∷ 0x92 ∷ 0x49 ∷ 0x24 ∷ 0x92 ∷ 0x40 ∷ 0x07 ∷ 0xA0 ∷ 0x01 ∷ 0x80 ∷ 0x00 ∷ 0x10 ∷ 0x00 ∷ 0xF0 ∷ 0x01 ∷ 0x01 ∷ 0x01 ∷ 0xE0 ∷ 0x10 ∷ 0x10 ∷ 0xF0 ∷ 0x11 ∷ 0x00 ∷ 0x21 ∷ 0xE0 ∷ 0x20 ∷ []
 
+-- ---- edition 2 (02, C-21)
+
+-- A's network in edition 2: β, n, κ, slots, endpoints, links and service links as in A. The header has a byte more, so the slots start at byte 8
+-- and the endpoints in byte 9; a link takes 24 bits, the first from the last two bits of byte 13 on, and a service link 20, the first from the
+-- last two bits of byte 25 on. The last six bits of byte 33 are fill
+unfoldable pub caseSecond : List ℕ
+caseSecond = 0x22 ∷ 0x00 ∷ 0x40 ∷ 0x02 ∷ 0x02 ∷ 0x00 ∷ 0x40 ∷ 0x03 ∷ 0x24 ∷ 0x90 ∷ 0x01 ∷ 0xE8 ∷ 0x00 ∷ 0x60 ∷ 0x00 ∷ 0x00 ∷ 0x04 ∷ 0x00 ∷ 0x00 ∷ 0x08 ∷ 0x00 ∷ 0x40 ∷ 0x0C ∷ 0x00 ∷ 0x00 ∷ 0x10 ∷ 0x00 ∷ 0x40 ∷ 0x40 ∷ 0x08 ∷ 0x04 ∷ 0x01 ∷ 0x00 ∷ 0x80 ∷ []
+
+-- its evidence, 55 bytes: a node takes three bytes, its parent 12 bits and its depth 12. The head has 9 bytes, the first forest 12, and each of
+-- the two sections 5 and 12
+unfoldable pub evidenceSecond : List ℕ
+evidenceSecond = 0x21 ∷ 0x01 ∷ 0x02 ∷ 0x00 ∷ 0x00 ∷ 0x2A ∷ 0x00 ∷ 0x00 ∷ 0x0C ∷ 0x00 ∷ 0x00 ∷ 0x01 ∷ 0x00 ∷ 0x00 ∷ 0x01 ∷ 0x00 ∷ 0x10 ∷ 0x02 ∷ 0x00 ∷ 0x00 ∷ 0x01 ∷ 0x00 ∷ 0x00 ∷ 0x00 ∷ 0x1E ∷ 0x01 ∷ 0x00 ∷ 0x00 ∷ 0x00 ∷ 0x00 ∷ 0x00 ∷ 0x00 ∷ 0x00 ∷ 0x00 ∷ 0x00 ∷ 0x00 ∷ 0x00 ∷ 0x01 ∷ 0x01 ∷ 0x00 ∷ 0x00 ∷ 0x0C ∷ 0x00 ∷ 0x00 ∷ 0x00 ∷ 0x01 ∷ 0x00 ∷ 0x00 ∷ 0x01 ∷ 0x00 ∷ 0x00 ∷ 0x00 ∷ 0x00 ∷ 0x00 ∷ 0x00 ∷ []
+
+-- locations beyond a byte: block size 15, 270 slots, near limit 3; slots 255, 256 and 270 are held and near, the others freed and far. Endpoints
+-- as in A; links 0-255, 0-256, 256-270; service links 255-1, 270-2. The three bytes of eight freed slots come 31 times, for slots 1 to 248; those of
+-- slots 249 to 256, 257 to 264 and 265 to 270 follow, and the last of them has six bits of the first weight too
+unfoldable pub caseFar : List ℕ
+caseFar =
+    0x2F ∷ 0x10 ∷ 0xE0 ∷ 0x03 ∷ 0x02 ∷ 0x00 ∷ 0x30 ∷ 0x02 ∷ (flat (replicate 31 (0x92 ∷ 0x49 ∷ 0x24 ∷ []))
+    ++ (0x92 ∷ 0x49 ∷ 0x09 ∷ 0x92 ∷ 0x49 ∷ 0x24 ∷ 0x92 ∷ 0x48 ∷ 0x40 ∷ 0x07 ∷ 0xA0 ∷ 0x01 ∷ 0x80 ∷ 0x00 ∷ 0x0F ∷ 0xF0 ∷ 0x00 ∷ 0x10 ∷ 0x01 ∷ 0x00 ∷ 0x10 ∷ 0xE0 ∷ 0xFF ∷ 0x01 ∷ 0x10 ∷ 0xE0 ∷ 0x20 ∷ []))
+
+-- the forest of 270 slots with these nodes of slots 255, 256 and 270, three bytes each; the others are unreached
+unfoldable pub farForest : List ℕ → List ℕ → List ℕ → List ℕ
+farForest a b c = replicate 762 0 ++ (a ++ (b ++ (replicate 39 0 ++ c)))
+
+-- its evidence, 2449 bytes: block 17 goes, with loss 12. Slots 255 and 256 have depth 1; slot 270 has parent 256 (100 hex) and depth 2
+unfoldable pub evidenceFar : List ℕ
+evidenceFar =
+    0x21 ∷ 0x11 ∷ 0x02 ∷ 0x00 ∷ 0x00 ∷ 0x2A ∷ 0x00 ∷ 0x00 ∷ 0x0C ∷ (farForest (0x00 ∷ 0x00 ∷ 0x01 ∷ []) (0x00 ∷ 0x00 ∷ 0x01 ∷ []) (0x10 ∷ 0x00 ∷ 0x02 ∷ [])
+    ++ (0x10 ∷ 0x00 ∷ 0x00 ∷ 0x1E ∷ 0x01 ∷ (farForest (0x00 ∷ 0x00 ∷ 0x00 ∷ []) (0x00 ∷ 0x00 ∷ 0x01 ∷ []) (0x10 ∷ 0x00 ∷ 0x02 ∷ [])
+    ++ (0x11 ∷ 0x00 ∷ 0x00 ∷ 0x0C ∷ 0x00 ∷ farForest (0x00 ∷ 0x00 ∷ 0x01 ∷ []) (0x00 ∷ 0x00 ∷ 0x00 ∷ []) (0x00 ∷ 0x00 ∷ 0x00 ∷ [])))))
+
 -- ---- what is written and printed for A
 
 -- A's evidence, 43 bytes
@@ -97,4 +131,13 @@ linesA =
     98 ∷ 108 ∷ 111 ∷ 99 ∷ 107 ∷ 32 ∷ 48 ∷ 32 ∷ 108 ∷ 111 ∷ 115 ∷ 116 ∷ 32 ∷ 51 ∷ 48 ∷ 32 ∷ 109 ∷ 97 ∷ 114 ∷ 107 ∷ 32 ∷ 49 ∷ 10 ∷
     98 ∷ 108 ∷ 111 ∷ 99 ∷ 107 ∷ 32 ∷ 49 ∷ 32 ∷ 108 ∷ 111 ∷ 115 ∷ 116 ∷ 32 ∷ 49 ∷ 50 ∷ 32 ∷ 109 ∷ 97 ∷ 114 ∷ 107 ∷ 32 ∷ 48 ∷ 10 ∷
     99 ∷ 104 ∷ 111 ∷ 111 ∷ 115 ∷ 101 ∷ 32 ∷ 49 ∷ 32 ∷ 108 ∷ 111 ∷ 115 ∷ 116 ∷ 32 ∷ 49 ∷ 50 ∷ 10 ∷
+    []
+
+-- and for locations beyond a byte: "served 42", "block 16 lost 30 mark 1", "block 17 lost 12 mark 0", "choose 17 lost 12"
+unfoldable pub linesFar : List ℕ
+linesFar =
+    115 ∷ 101 ∷ 114 ∷ 118 ∷ 101 ∷ 100 ∷ 32 ∷ 52 ∷ 50 ∷ 10 ∷
+    98 ∷ 108 ∷ 111 ∷ 99 ∷ 107 ∷ 32 ∷ 49 ∷ 54 ∷ 32 ∷ 108 ∷ 111 ∷ 115 ∷ 116 ∷ 32 ∷ 51 ∷ 48 ∷ 32 ∷ 109 ∷ 97 ∷ 114 ∷ 107 ∷ 32 ∷ 49 ∷ 10 ∷
+    98 ∷ 108 ∷ 111 ∷ 99 ∷ 107 ∷ 32 ∷ 49 ∷ 55 ∷ 32 ∷ 108 ∷ 111 ∷ 115 ∷ 116 ∷ 32 ∷ 49 ∷ 50 ∷ 32 ∷ 109 ∷ 97 ∷ 114 ∷ 107 ∷ 32 ∷ 48 ∷ 10 ∷
+    99 ∷ 104 ∷ 111 ∷ 111 ∷ 115 ∷ 101 ∷ 32 ∷ 49 ∷ 55 ∷ 32 ∷ 108 ∷ 111 ∷ 115 ∷ 116 ∷ 32 ∷ 49 ∷ 50 ∷ 10 ∷
     []

@@ -17,6 +17,17 @@ use Rattle.lists.proofs.Tests.{eq-T}
 use Rattle.rows.proofs.Parts.{done, Union, done-none, done-more, done-marks, marks-done}
 use Rattle.rows.proofs.InWords.{WordLeft, word-begun, word-picked, word-next, none-in-zero}
 
+-- nothing is marked: no entry is made
+pub entered-none : {marks : ℕ → Bool} {u d : ℕ} {parent depth : List ℕ} → Whole parent depth → ((v : ℕ) → ¬ T (marks v)) → Entered marks u d parent depth parent depth
+entered-none whole none =
+    record {
+      whole = whole;
+      new-parent = λ v t. absurd (none v t);
+      new-depth = λ v t. absurd (none v t);
+      old-parent = λ v n. refl;
+      old-depth = λ v n. refl;
+    }
+
 module _ {u d : ℕ} {parent depth parent′ depth′ : List ℕ} where
   -- one more entry
   entered-more : (a : ℕ) {before after : ℕ → Bool} → Union before (eqb a) after → a ≤ slotsMax
@@ -50,18 +61,8 @@ module _ {word base u d : ℕ} {parent₀ depth₀ : List ℕ} where
   begun small whole =
       record {
         left = word-begun word base small;
-        entries =
-            record {
-              whole = whole;
-              new-parent = λ v t. absurd (none v t);
-              new-depth = λ v t. absurd (none v t);
-              old-parent = λ v n. refl;
-              old-depth = λ v n. refl;
-            };
+        entries = entered-none whole (done-none (inWord word base) (inWord word base) (λ v t. t));
       }
-    where
-      none : (v : ℕ) → ¬ T (done (inWord word base) (inWord word base) v)
-      none = done-none (inWord word base) (inWord word base) (λ v t. t)
 
   module _ {w : ℕ} {parent depth : List ℕ} (s : Entering word base u d w parent₀ depth₀ parent depth) where
     pub hit : (some : w ≡ 0 → ⊥) → base + trailingZeros 64 w ≤ slotsMax

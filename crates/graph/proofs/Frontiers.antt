@@ -3,7 +3,6 @@ use mathlib.Core.Bool.{Bool}
 use mathlib.Core.List.{List, []}
 use mathlib.Core.Path.{_≡_, sym, subst}
 use Prim.Native.Nat.{ℕ, _+_, _-_, _*_, _^_, _≤_, _<_}
-use native.Mathlib.Omega.{arith}
 use lib.Bits.{bitAnd}
 use lib.Count.{trailingZeros}
 use lib.Dec.{T, eqb, eqb→eq}
@@ -67,7 +66,6 @@ module _ {r : Range} {links : List (List ℕ)} {word base words d : ℕ} {fresh�
 
 -- the rows of the locations of the words below i are swept
 pub record RowSweeping (r : Range) (links : List (List ℕ)) (frontier : List ℕ) (words d i : ℕ) (fresh₀ parent₀ depth₀ fresh parent depth : List ℕ) : Type 0 where
-  pub low : i ≤ words
   pub swept : Swept words (done (marked frontier) (fromWord i (marked frontier))) (avoiding r (linkedIn links)) d fresh₀ parent₀ depth₀ fresh parent depth
 
 -- a word of a row of locations has locations
@@ -76,21 +74,14 @@ row-locations row i l = record { within = λ v t. l .within v (word-marked row i
 
 module _ {r : Range} {links : List (List ℕ)} {frontier : List ℕ} {words d : ℕ} {fresh₀ parent₀ depth₀ : List ℕ} where
   pub row-sweep-begun : Ready words fresh₀ parent₀ depth₀ → RowSweeping r links frontier words d 0 fresh₀ parent₀ depth₀ fresh₀ parent₀ depth₀
-  row-sweep-begun ready =
-      record {
-        low = omega arith;
-        swept = swept-none _ _ ready (λ v u f. done-none _ _ (from-first (marked frontier)) u (f .there));
-      }
+  row-sweep-begun ready = record { swept = swept-none _ _ ready (λ v u f. done-none _ _ (from-first (marked frontier)) u (f .there)) }
 
   module _ {i : ℕ} {fresh parent depth : List ℕ} (s : RowSweeping r links frontier words d i fresh₀ parent₀ depth₀ fresh parent depth) where
-    pub row-sweep-next : {fresh′ parent′ depth′ : List ℕ} → i < words
+    pub row-sweep-next : {fresh′ parent′ depth′ : List ℕ}
         → Swept words (inWord (getD frontier i 0) (i * 64)) (avoiding r (linkedIn links)) d fresh parent depth fresh′ parent′ depth′
         → RowSweeping r links frontier words d (i + 1) fresh₀ parent₀ depth₀ fresh′ parent′ depth′
-    row-sweep-next l word =
-        record {
-          low = omega arith;
-          swept = swept-then (frontier-joined (from-part i (marked frontier)) (row-picked frontier i) (avoiding r (linkedIn links))) (s .swept) word;
-        }
+    row-sweep-next word =
+        record { swept = swept-then (frontier-joined (from-part i (marked frontier)) (row-picked frontier i) (avoiding r (linkedIn links))) (s .swept) word }
 
     pub row-sweep-ended : Narrow words frontier → words ≤ i → Swept words (marked frontier) (avoiding r (linkedIn links)) d fresh₀ parent₀ depth₀ fresh parent depth
     row-sweep-ended narrow l = all-swept (fromWord i (marked frontier)) (narrow-from narrow l) (s .swept)

@@ -4,8 +4,11 @@ use mathlib.Core.List.{List}
 use mathlib.Core.Path.{_≡_}
 use Prim.Native.Nat.{ℕ, _≤_}
 use lib.ListN.{length, getD}
+use lib.Bits.{bitAnd, bitXor}
 use lib.Dec.{T}
-use Rattle.rows.specs.Rows.{marked, Narrow, locationsMax, slotsMax, rowWords}
+use Rattle.rows.specs.declared.Range.{Range}
+use Rattle.rows.specs.Ranges.{LeftOut}
+use Rattle.rows.specs.Rows.{marked, inWord, Narrow, locationsMax, slotsMax, rowWords}
 
 -- the marks are locations': none is above the last slot
 pub record Locations (marks : ℕ → Bool) : Type 0 where
@@ -30,6 +33,14 @@ pub record Entered (marks : ℕ → Bool) (u d : ℕ) (parent depth parent′ de
   pub new-depth : (v : ℕ) → T (marks v) → getD depth′ v 0 ≡ d
   pub old-parent : (v : ℕ) → ¬ T (marks v) → getD parent′ v 0 ≡ getD parent v 0
   pub old-depth : (v : ℕ) → ¬ T (marks v) → getD depth′ v 0 ≡ getD depth v 0
+
+-- one word of a row is swept, whose first place is location base: those of the fresh slots that it marks are entered, but for those of a range,
+-- and the others are left
+pub record WordSwept (r : Range) (word fresh base u d : ℕ) (parent depth parent′ depth′ : List ℕ) (left : ℕ) : Type 0 where
+  pub new : ℕ
+  pub found : LeftOut r (bitAnd word fresh) base new
+  pub entered : Entered (inWord new base) u d parent depth parent′ depth′
+  pub same : left ≡ bitXor fresh new
 
 -- the location u of the frontier has a link to v
 pub record Finds (frontier : ℕ → Bool) (linked : ℕ → ℕ → Bool) (v u : ℕ) : Type 0 where

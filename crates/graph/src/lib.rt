@@ -1,10 +1,12 @@
 // A walk over links between locations by levels: the parent and the depth of every slot that chains from the origin reach.
+ghost use Prim.Native.Nat.{_<_};
 ghost use lib.Dec.{eqb};
-ghost use Rattle.rows.specs.Rows.{marked, linkedIn, inWord, Narrow};
+ghost use Rattle.rows.specs.Rows.{marked, linkedIn, inWord, Narrow, marksMax};
 ghost use Rattle.rows.specs.Ranges.{without, avoiding};
 ghost use Rattle.graph.specs.Held.{heldIn, SlotsOnly};
 ghost use Rattle.graph.specs.Steps.{Walked};
-ghost use Rattle.graph.specs.Sweeps.{Locations, Whole, Ready, Entered, Swept};
+ghost use Rattle.graph.specs.Sweeps.{Locations, Whole, Ready, Entered, WordSwept, Swept};
+use rows::FEW_WORDS;
 use rows::LOCATIONS;
 use rows::Range;
 use rows::SLOTS;
@@ -50,6 +52,31 @@ fn enter(
     }
 }
 
+// One word of a row, whose first place is location base: the fresh slots that it marks get the parent u and the depth d, and those that are
+// left are fresh still. Those of the range stay as they are. Most words have nothing to look for, and the range is looked at in the others
+// alone.
+fn sweep_at(
+    word: u64,
+    fresh: u64,
+    base: usize,
+    block: Range,
+    parent: &mut [u16; LOCATIONS],
+    depth: &mut [u16; LOCATIONS],
+    u: u16,
+    d: u16,
+) -> u64
+    requires { ⌜ Locations (inWord fresh base) × Whole (now parent) (now depth) × (base < marksMax) ⌝ }
+    ensures { λ r. ⌜ WordSwept block word fresh base u d (now (parent .entry)) (now (depth .entry)) (now (parent .exit)) (now (depth .exit)) r ⌝ }
+{
+    let marked = word & fresh;
+    if marked == 0 {
+        return fresh;
+    }
+    let found = rows::leave_out(marked, base, block);
+    enter(parent, depth, found, base, u, d);
+    fresh ^ found
+}
+
 // One row: the fresh slots that are marked in it get the parent u and the depth d, and are fresh no more. Those of the range stay as they are.
 fn sweep(
     row: [u64; WORDS],
@@ -68,16 +95,15 @@ fn sweep(
         (now (fresh .exit)) (now (parent .exit)) (now (depth .exit)) ⌝ }
 {
     let mut k: usize = 0;
-    while k < words {
-        let old = fresh[k];
-        let marked = row[k] & old;
-        // Most words have nothing to look for: the range is looked at in the others alone.
-        if marked != 0 {
-            let found = rows::leave_out(marked, k * 64, block);
-            fresh[k] = old ^ found;
-            enter(parent, depth, found, k * 64, u, d);
-        }
+    while k < FEW_WORDS {
+        fresh[k] = sweep_at(row[k], fresh[k], k * 64, block, parent, depth, u, d);
         k += 1;
+    }
+    if FEW_WORDS < words {
+        while k < WORDS {
+            fresh[k] = sweep_at(row[k], fresh[k], k * 64, block, parent, depth, u, d);
+            k += 1;
+        }
     }
 }
 
@@ -128,7 +154,11 @@ fn level(
         (now (fresh .exit)) (now (parent .exit)) (now (depth .exit)) ⌝ }
 {
     let mut i: usize = 0;
-    while i < words {
+    while i < WORDS {
+        // So that the compiler knows how many there are at most.
+        if i == words {
+            break;
+        }
         let word = frontier[i];
         sweep_word(links, word, i * 64, words, block, fresh, parent, depth, d);
         i += 1;

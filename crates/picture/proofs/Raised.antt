@@ -37,6 +37,11 @@ module _ (bs : List ℕ) where
   abbrev size : ℕ
   size = headerIn edition1 bs .«block_size»
 
+  -- nothing that the bytes say has to do with the limit
+  lists-same : (m : ℕ) → pictureIn (edition1UpTo m) bs ≡ pictureIn edition1 bs
+  unfolding headerIn headerWidths pictureWith linkWidths serviceLinkWidths slotsAt endpointsAt linksAt serviceLinksAt
+  lists-same m = refl
+
   -- a size above the limit is not right
   above : (m : ℕ) → m < size → sizesRight (header m) ≡ false
   unfolding sizesRight headerIn headerWidths
@@ -46,11 +51,6 @@ module _ (bs : List ℕ) where
   within : (m k : ℕ) → size ≤ m → size ≤ k → sizesRight (header m) ≡ sizesRight (header k)
   unfolding sizesRight headerIn headerWidths
   within m k l r = rw (le-leb _ _ l, le-leb _ _ r)
-
-  -- nothing that the bytes say has to do with the limit
-  lists-same : (m : ℕ) → pictureIn (edition1UpTo m) bs ≡ pictureIn edition1 bs
-  unfolding headerIn headerWidths pictureWith linkWidths serviceLinkWidths slotsAt endpointsAt linksAt serviceLinksAt
-  lists-same m = refl
 
   -- the tests before the sizes and the faults behind them have not either
   short : Bool

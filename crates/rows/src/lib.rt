@@ -1,10 +1,10 @@
 // Rows of marks, 64 to a word: sets of locations; and ranges of locations by their numbers.
 ghost use mathlib.Core.Path.{_≡_};
-ghost use Prim.Native.Nat.{_+_, _-_, _<_};
-ghost use lib.ListN.{length};
+ghost use Prim.Native.Nat.{ℕ, _+_, _-_, _^_, _<_};
+ghost use lib.ListN.{length, getD};
 ghost use Rattle.lists.specs.Lists.{range, any};
 ghost use Rattle.rows.specs.Ranges.{noRange, UpTo, LeftOut};
-ghost use Rattle.rows.specs.Rows.{marked, wordsFor, Narrow, With, Linked, Differ, Minus, NoneMarked, Meet, marksMax, rowWords};
+ghost use Rattle.rows.specs.Rows.{marked, wordsFor, Between, Narrow, With, Linked, Differ, Minus, NoneMarked, Meet, marksMax, rowWords};
 
 // The slots that rows have a place for.
 pub const SLOTS: usize = 320;
@@ -13,7 +13,7 @@ pub const LOCATIONS: usize = SLOTS + 1;
 // The words of a row, with 64 marks each.
 pub const WORDS: usize = 6;
 // Most rows need no more than these. A loop over them has a known end, and is compiled without a test for each word.
-const FEW_WORDS: usize = 4;
+pub const FEW_WORDS: usize = 4;
 
 // Locations by their numbers: those above the first number, up to the second (01: the slots of a block).
 pub struct Range {
@@ -36,9 +36,10 @@ pub fn has(row: &[u64; WORDS], v: usize) -> bool
     (row[v / 64] >> (v % 64)) & 1 == 1
 }
 
-// Tells the prover that a row has so many words, which it knows of an array by value and not of one behind a reference. It does nothing.
+// Tells the prover that a row has so many words, of 64 digits each, which it knows of an array by value and not of one behind a reference. It
+// does nothing.
 fn all_words(row: [u64; WORDS])
-    ensures { λ _. ⌜ length row ≡ rowWords ⌝ }
+    ensures { λ _. ⌜ (length row ≡ rowWords) × ((i : ℕ) → getD row i 0 < 2 ^ 64) ⌝ }
 {}
 
 // The row marks v too.
@@ -105,7 +106,11 @@ pub fn none_marked(row: [u64; WORDS], words: usize) -> bool
     ensures { λ r. ⌜ NoneMarked row r ⌝ }
 {
     let mut i: usize = 0;
-    while i < words {
+    while i < WORDS {
+        // So that the compiler knows how many there are at most.
+        if i == words {
+            break;
+        }
         if row[i] != 0 {
             return false;
         }
@@ -114,24 +119,50 @@ pub fn none_marked(row: [u64; WORDS], words: usize) -> bool
     true
 }
 
-// Whether two rows have a mark in common. The words are looked at without a branch for each, which would cost more.
-pub fn meet(row: [u64; WORDS], other: [u64; WORDS], words: usize) -> bool
-    requires { ⌜ Narrow words other ⌝ }
-    ensures { λ r. ⌜ Meet (marked row) (marked other) r ⌝ }
+// The first of the words that has a mark, or where they end.
+pub fn first_word(row: &[u64; WORDS], to: usize) -> usize
+    requires { ⌜ Narrow to (now row) ⌝ }
+    ensures { λ r. ⌜ Between r to (now (row .entry)) ⌝ }
 {
-    let mut common: u64 = 0;
     let mut i: usize = 0;
-    while i < FEW_WORDS {
-        common = common | (row[i] & other[i]);
+    while i < to {
+        if row[i] != 0 {
+            return i;
+        }
         i += 1;
     }
-    if FEW_WORDS < words {
-        while i < WORDS {
-            common = common | (row[i] & other[i]);
-            i += 1;
+    i
+}
+
+// Where the last of the words ends that has a mark, or where they start.
+pub fn last_word(row: &[u64; WORDS], from: usize, to: usize) -> usize
+    requires { ⌜ Between from to (now row) ⌝ }
+    ensures { λ r. ⌜ Between from r (now (row .entry)) ⌝ }
+{
+    let mut i = to;
+    while from < i {
+        if row[i - 1] != 0 {
+            return i;
         }
+        i -= 1;
     }
-    common != 0
+    i
+}
+
+// Whether two rows have a mark in common, of which the second has none but in the words from one up to another.
+pub fn meet(row: &[u64; WORDS], other: &[u64; WORDS], from: usize, to: usize) -> bool
+    requires { ⌜ Between from to (now other) ⌝ }
+    ensures { λ r. ⌜ Meet (marked (now (row .entry))) (marked (now (other .entry))) r ⌝ }
+{
+    let mut i = from;
+    while i < to {
+        if row[i] & other[i] != 0 {
+            all_words(*row);
+            return true;
+        }
+        i += 1;
+    }
+    false
 }
 
 // The range of no location.

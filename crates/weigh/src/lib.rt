@@ -5,7 +5,7 @@ ghost use mathlib.Core.List.{List};
 ghost use Prim.Native.Nat.{ℕ, suc, _≤_, _<_};
 ghost use lib.ListN.{length};
 ghost use Rattle.lists.specs.Lists.{outcome};
-ghost use Rattle.rows.specs.Rows.{marked, Narrow, Minus, marksMax};
+ghost use Rattle.rows.specs.Rows.{marked, Between, Narrow, Minus, marksMax};
 ghost use Rattle.picture.specs.Picture.{pictureOf};
 ghost use Rattle.picture.specs.Inner.{Read};
 ghost use Rattle.picture.specs.Layout.{endpointsMax};
@@ -43,13 +43,21 @@ pub struct Lost {
 const SUM_UNIT: u32 = 256;
 
 // Whether an endpoint is lost, which the locations of the row serve: one that is gone served it, and none that is left (`after`) does. Most
-// endpoints are served by nothing that is gone, so the first look is the only one.
-fn is_lost(row: [u64; WORDS], gone: [u64; WORDS], after: [u64; WORDS], words: usize) -> bool
-    requires { ⌜ Narrow words gone × Narrow words after ⌝ }
-    ensures { λ r. ⌜ ((before : List ℕ) → Minus before after gone → LostRow row before after r) ⌝ }
+// endpoints are served by nothing that is gone, so the first look is the only one, and it is at the words where something is gone.
+fn is_lost(
+    row: &[u64; WORDS],
+    gone: &[u64; WORDS],
+    from: usize,
+    to: usize,
+    after: &[u64; WORDS],
+    words: usize,
+) -> bool
+    requires { ⌜ Between from to (now gone) × Narrow words (now after) ⌝ }
+    ensures { λ r.
+        ⌜ ((before : List ℕ) → Minus before (now (after .entry)) (now (gone .entry)) → LostRow (now (row .entry)) before (now (after .entry)) r) ⌝ }
 {
-    if rows::meet(row, gone, words) {
-        return !rows::meet(row, after, words);
+    if rows::meet(row, gone, from, to) {
+        return !rows::meet(row, after, 0, words);
     }
     false
 }
@@ -79,13 +87,14 @@ pub fn lost_between(
     ensures { λ r. ⌜ LostBetween (now (services .entry)) (now (weights .entry)) protected d before after r ⌝ }
 {
     let gone = rows::minus(before, after, words);
+    let from = rows::first_word(&gone, words);
+    let to = rows::last_word(&gone, from, words);
     let mut sum: u32 = 0;
     let mut mark: u8 = 0;
     // Down to the first: so the loop has one count to keep.
     let mut c = d;
     while 0 < c {
-        let row = services[c];
-        let lost = is_lost(row, gone, after, words);
+        let lost = is_lost(&services[c], &gone, from, to, &after, words);
         if lost {
             sum += weights[c] * SUM_UNIT + 1;
         }

@@ -2,7 +2,6 @@
 use mathlib.Core.Path.{ap₂}
 use mathlib.Core.Bool.{Bool, not, _&&_}
 use Rattle.weigh.proofs.Picking.{meet-one, met-before, met-after}
-use borrow.Author.Needs.{needs}
 use Rattle.weigh.proofs.is_lost.Statement.{statement}
 use Rattle.weigh.proofs.is_lost.Tie as tie
 

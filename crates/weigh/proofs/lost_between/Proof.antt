@@ -30,25 +30,28 @@ abbrev parted : ℕ → ℕ → Lost
 parted sum mark = record { weight = sum / 256; count = sum % 256; mark = mark }
 
 abbrev Inv-loop : tie.InvT-loop
-Inv-loop services weights d after words protected gone sum₀ mark₀ c₀ sum mark c = Loop services weights protected d gone after (parted sum mark) c
+Inv-loop services weights d words protected after gone from to sum₀ mark₀ c₀ sum mark c = Loop services weights protected d gone after (parted sum mark) c
 
 abbrev μ-loop : tie.MeasureT-loop
-μ-loop services weights d after words protected gone sum₀ mark₀ c₀ sum mark c = c
+μ-loop services weights d words protected after gone from to sum₀ mark₀ c₀ sum mark c = c
 
--- the places of the code: the loop's test, and where the endpoint at hand is found lost or not
+-- the places of the code: where it is known what is gone, the loop's test, and where the endpoint at hand is found lost or not
+abbrev less : tie.After-last-word Inv-loop μ-loop → tie.After-minus Inv-loop μ-loop
+less c = c .before .before .before .before
+
 abbrev turn : tie.After-is-lost Inv-loop μ-loop → tie.At-loop Inv-loop μ-loop
-turn c = c .before .before .before
+turn c = c .before .before .before .before .before
 
 abbrev looked : tie.Joined2 Inv-loop μ-loop → tie.After-is-lost Inv-loop μ-loop
 looked c = c .before .before .before .before
 
 -- there is room for one endpoint more in the number
 few : (l : tie.At-loop Inv-loop μ-loop) → l .loop .sum % 256 < 255
-few l = omega (arith, l .loop .inv .picking _ (l .before .minus .ensures) .few, l .loop .inv .within, l .loop .inv .few)
+few l = omega (arith, l .loop .inv .picking _ (less (l .before) .minus .ensures) .few, l .loop .inv .within, l .loop .inv .few)
 
 -- a lost endpoint's weight is added, and it is counted
 sums-next : (c : tie.Joined1 Inv-loop μ-loop) → let l = turn (c .before) in let lost = c .before .is-lost .result in
-    (c .if1 .sum / 256 ≡ l .loop .sum / 256 + on lost (getD (l .before .before .args .weights .now) (l .loop .c) 0)) × (c .if1 .sum % 256 ≡ l .loop .sum % 256 + on lost 1)
+    (c .if1 .sum / 256 ≡ l .loop .sum / 256 + on lost (getD (less (l .before) .before .args .weights .now) (l .loop .c) 0)) × (c .if1 .sum % 256 ≡ l .loop .sum % 256 + on lost 1)
 sums-next c =
     let f = few (turn (c .before)) in
     ⊎-elim
@@ -57,7 +60,7 @@ sums-next c =
 
 -- a lost protected endpoint sets the mark
 mark-next : (c : tie.Joined2 Inv-loop μ-loop) → let k = looked c in let l = turn k in
-    let hit : Bool = marked (l .before .before .args .t3) (l .loop .c) && k .is-lost .result in
+    let hit : Bool = marked (less (l .before) .before .args .t3) (l .loop .c) && k .is-lost .result in
     on hit 1 + on (not hit) (l .loop .mark) ≡ c .if2 .mark
 unfolding on
 mark-next c =
@@ -69,18 +72,26 @@ mark-next c =
 minus-requires : tie.Need-minus-requires Inv-loop μ-loop
 minus-requires c κs = c .pre .3
 
+first-word-requires : tie.Need-first-word-requires Inv-loop μ-loop
+first-word-requires c κs = less-narrow (c .before .before .pre .3) (c .before .minus .ensures)
+
+last-word-requires : tie.Need-last-word-requires Inv-loop μ-loop
+last-word-requires c κs = c .before .first-word .ensures
+
 loop-holds : tie.Need-loop-holds Inv-loop μ-loop
 loop-holds c =
-    record { within = omega arith; few = c .before .pre .2; many = c .before .pre .1; small = c .before .pre .0; picking = λ before m. let none : c .before .args .d - c .before .args .d ≡ 0 = omega arith in rw none (picking-begun _ _ _ _ _ _) }
+    let e = less c .before in
+    let none : e .args .d - e .args .d ≡ 0 = omega arith in
+    record { within = omega arith; few = e .pre .2; many = e .pre .1; small = e .pre .0; picking = λ before m. rw none (picking-begun _ _ _ _ _ _) }
 
-mul-row : tie.Need-mul-row Inv-loop μ-loop
-mul-row c = search needs
+mul-is-lost : tie.Need-mul-is-lost Inv-loop μ-loop
+mul-is-lost c = search needs
 
-element-copy-out-row : tie.Need-element-copy-out-row Inv-loop μ-loop
-element-copy-out-row c = search needs
+index-1-is-lost : tie.Need-index-1-is-lost Inv-loop μ-loop
+index-1-is-lost c = search needs
 
 is-lost-requires : tie.Need-is-lost-requires Inv-loop μ-loop
-is-lost-requires c κs = let m = c .before .before .before in (less-narrow (m .before .pre .3) (m .minus .ensures), m .before .pre .4)
+is-lost-requires c κs = let w = c .before .before .before .before .before in (w .last-word .ensures, less w .before .pre .4)
 
 mul-sum : tie.Need-mul-sum Inv-loop μ-loop
 mul-sum c = search needs
@@ -97,7 +108,7 @@ add-sum c = let l = turn (c .before .before) .loop in omega (arith, l .inv .smal
 add-sum-2 : tie.Need-add-sum-2 Inv-loop μ-loop
 add-sum-2 c =
     let l = turn (c .before .before) in
-    omega (arith, few l, l .loop .inv .picking _ (l .before .minus .ensures) .small, l .loop .inv .small .weight (l .loop .c))
+    omega (arith, few l, l .loop .inv .picking _ (less (l .before) .minus .ensures) .small, l .loop .inv .small .weight (l .loop .c))
 
 is-lost-protected-requires : tie.Need-is-lost-protected-requires Inv-loop μ-loop
 is-lost-protected-requires c κs = search needs
@@ -111,7 +122,7 @@ loop-less c = search needs
 loop-again : tie.Need-loop-again Inv-loop μ-loop
 loop-again c =
     let l = turn (looked c) .loop in
-    let test = looked c .before .before .loop-test .taken in
+    let test = looked c .before .before .before .before .loop-test .taken in
     record {
       within = omega arith;
       few = l .inv .few;
@@ -123,13 +134,13 @@ loop-again c =
           (sums-next (c .before .before .before) .0) (sums-next (c .before .before .before) .1) (mark-next c);
     }
 
-cast-t30 : tie.Need-cast-t30 Inv-loop μ-loop
-cast-t30 c = omega arith
+cast-t38 : tie.Need-cast-t38 Inv-loop μ-loop
+cast-t38 c = omega arith
 
 returns : tie.Need-returns Inv-loop μ-loop
 returns c =
     let l = c .before .loop in
-    picking-ended _ _ _ _ _ _ (l .c) _ _ (omega (arith, c .loop-test .left)) (omega (arith, c .loop-test .left)) (l .inv .picking _ (c .before .before .minus .ensures))
+    picking-ended _ _ _ _ _ _ (l .c) _ _ (omega (arith, c .loop-test .left)) (omega (arith, c .loop-test .left)) (l .inv .picking _ (less (c .before .before) .minus .ensures))
 
 pub lost-between-spec : {M : Type 1} → statement M
 lost-between-spec =
@@ -138,9 +149,11 @@ lost-between-spec =
     Inv-loop
     μ-loop
     minus-requires
+    first-word-requires
+    last-word-requires
     loop-holds
-    mul-row
-    element-copy-out-row
+    mul-is-lost
+    index-1-is-lost
     is-lost-requires
     mul-sum
     element-copy-out-sum
@@ -151,5 +164,5 @@ lost-between-spec =
     sub-c
     loop-less
     loop-again
-    cast-t30
+    cast-t38
     returns)
