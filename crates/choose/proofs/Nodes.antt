@@ -1,17 +1,16 @@
 -- The nodes of a forest written from arrays, slot by slot, and the arrays of a walk. Assumes nothing.
 use mathlib.Core.Path.{_≡_, refl, sym, ap, _∙_}
 use mathlib.Core.Bool.{Bool}
-use mathlib.Core.List.{List, [], _∷_, _++_}
+use mathlib.Core.List.{List, _++_}
 use Prim.Native.Nat.{ℕ, zero, suc, _+_, _*_, _^_, _≤_, _<_}
 use native.Mathlib.Omega.{arith}
 use native.Mathlib.Numerals.{add-one, one-add}
-use lib.ListN.{length, getD, set, length-set, length-map}
+use lib.ListN.{length, getD, length-map}
 use Rattle.bits.specs.Bits.{putField}
 use Rattle.lists.specs.Lists.{range, item, flat, sum}
 use Rattle.lists.proofs.Ranges.{length-range, getD-map-range}
 use Rattle.lists.proofs.Growing.{range-more, map-append, flat-map-more}
-use Rattle.packing.specs.Packing.{fieldsOf}
-use Rattle.packing.specs.Holding.{span, Put}
+use Rattle.packing.specs.Holding.{Put}
 use Rattle.packing.proofs.Putting.{put-none, put-both, put-behind, put-same}
 use Rattle.graph.specs.Chains.{Entry}
 use Rattle.graph.specs.declared.Node.{Node}

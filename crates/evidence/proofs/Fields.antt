@@ -19,7 +19,7 @@ use Rattle.graph.specs.declared.Node.{Node}
 use Rattle.graph.specs.Rounds.{forest}
 use Rattle.graph.proofs.Nodes.{length-forest, forest-at, parent-le, depth-le}
 use Rattle.picture.specs.declared.Edition.{Edition}
-use Rattle.picture.specs.Layout.{edition2, editionOf, editionNumber, blocksMax}
+use Rattle.picture.specs.Layout.{editionOf, editionNumber, blocksMax}
 use Rattle.picture.specs.Picture.{Picture, headerIn, headerOf, pictureOf}
 use Rattle.picture.specs.Faults.{pictureFault}
 use Rattle.picture.specs.Inner.{Read, Known}

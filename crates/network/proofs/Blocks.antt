@@ -8,7 +8,7 @@ use Rattle.rows.specs.Rows.{slotsMax}
 use Rattle.picture.specs.declared.Header.{Header}
 use Rattle.picture.specs.Picture.{Picture, pictureOf, pictureWith}
 use Rattle.picture.specs.Inner.{Read}
-use Rattle.picture.proofs.Facts.{read-picture, read-sizes, read-slots-most, read-slots-length, read-endpoints-length}
+use Rattle.picture.proofs.Facts.{read-picture, read-slots-most, read-slots-length, read-endpoints-length}
 use Rattle.network.specs.Words.{slotCount, endpointCount, blockCount}
 
 -- a block below the last ends where the last does or before

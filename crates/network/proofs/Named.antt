@@ -8,7 +8,6 @@ use lib.Dec.{T, eqb, eqb→eq}
 use lib.ListN.{length, getD}
 use Rattle.lists.proofs.Tests.{and-T, T-and, eq-T, any-at, at-any}
 use Rattle.picture.specs.declared.Link.{Link}
-use Rattle.picture.specs.Layout.{editionOf}
 use Rattle.picture.specs.Picture.{headerOf, pictureOf}
 use Rattle.picture.specs.Faults.{pictureFault}
 use Rattle.picture.specs.Rules.{noLink}

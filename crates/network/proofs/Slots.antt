@@ -8,7 +8,7 @@ use native.Mathlib.Omega.{arith}
 use native.Mathlib.Decide.{decLt}
 use native.Mathlib.Nat.{not-suc-le-zero}
 use borrow.Author.Tests.{le-leb, lt-ltb}
-use lib.Dec.{T, leb, ltb, eqb, leb→le, ltb→lt, eqb·suc-zero}
+use lib.Dec.{T, leb, ltb, eqb, leb→le, eqb·suc-zero}
 use lib.ListN.{length}
 use Rattle.lists.proofs.Tests.{T?, is-false, and-T}
 use Rattle.rows.specs.Rows.{marked, locationsMax}

@@ -14,7 +14,7 @@ use Rattle.lists.proofs.Faults.{on-true, on-pass, on-le}
 use Rattle.lists.proofs.Sums.{total, sum-le}
 use Rattle.lists.proofs.Picks.{item-inside, sum-split}
 use Rattle.bits.proofs.Reading.{fieldAt-lt}
-use Rattle.picture.specs.Layout.{editionOf, endpointWidths, weightMax}
+use Rattle.picture.specs.Layout.{endpointWidths, weightMax}
 use Rattle.picture.specs.Picture.{Picture, Endpoint, headerOf, pictureOf, endpointAt, endpointOf}
 use Rattle.picture.specs.Faults.{pictureFault}
 use Rattle.picture.proofs.Starts.{field-first, endpoint-row}

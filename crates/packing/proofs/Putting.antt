@@ -2,15 +2,15 @@
 use mathlib.Core.Path.{_≡_, refl, sym, ap, _∙_}
 use mathlib.Core.Logic.{inl, inr}
 use mathlib.Core.List.{List, [], _∷_, _++_, map}
-use Prim.Native.Nat.{ℕ, _+_, _-_, _*_, _/_, _%_, _^_, _≤_, _<_}
+use Prim.Native.Nat.{ℕ, _+_, _*_, _/_, _%_, _^_, _≤_, _<_}
 use native.Mathlib.Omega.{arith}
 use native.Mathlib.Numerals.{add-one}
-use lib.ListN.{length, getD, take, set, length-set}
-use lib.Seq.{getD-set-same, getD-set-other, take-all, take-suc, length-take-le}
+use lib.ListN.{length, getD, take}
+use lib.Seq.{take-all, take-suc, length-take-le}
 use lib.Pow.{pow-add, high, low}
 use lib.Arith.{digits-lt}
-use Rattle.bits.specs.Bits.{bitAt, fieldAt, putField}
-use Rattle.bits.proofs.Reading.{fieldAt-lt, fieldAt-join, fieldAt-byte}
+use Rattle.bits.specs.Bits.{fieldAt, putField}
+use Rattle.bits.proofs.Reading.{fieldAt-lt, fieldAt-join}
 use Rattle.bits.proofs.Writing.{length-putField, putField-out}
 use Rattle.lists.specs.Lists.{flat}
 use Rattle.lists.proofs.Growing.{flat-map-more}
@@ -33,17 +33,6 @@ put-one bs q f small room =
       holds = (put-holds bs q f small room, tt);
       before = λ i l. putField-out bs q (f .width) (f .value) i room (inl l);
       after = λ i l. putField-out bs q (f .width) (f .value) i room (inr (omega arith));
-    }
-
--- a byte
-pub put-one-byte : (bs : List ℕ) (k v : ℕ) → k < length bs → v < 256 → Put bs (k * 8) (record { width = 8; value = v } ∷ []) (set bs k v)
-unfolding Holds span bitAt
-put-one-byte bs k v room small =
-    record {
-      long = length-set bs k v;
-      holds = (fieldAt-byte (set bs k v) k (rw (getD-set-same bs k v 0 room) small) ∙ getD-set-same bs k v 0 room, tt);
-      before = λ i l. ap (λ (x : ℕ). x / 2 ^ (7 - i % 8) % 2) (getD-set-other bs k (i / 8) v 0 (λ e. absurd (omega arith)));
-      after = λ i l. ap (λ (x : ℕ). x / 2 ^ (7 - i % 8) % 2) (getD-set-other bs k (i / 8) v 0 (λ e. absurd (omega arith)));
     }
 
 -- two adjacent fields, written as one of their joint width

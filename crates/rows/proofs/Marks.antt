@@ -12,7 +12,7 @@ use borrow.Author.Count.{below-more}
 use lib.Count.{trailingZeros}
 use borrow.Author.Tests.{eq-eqb, ne-eqb, le-leb, lt-ltb}
 use lib.Dec.{T, leb, eqb, leb→le, le→leb, eqb→eq}
-use lib.ListN.{length, getD, set, replicate, length-set, length-replicate, List·getD-eq-default}
+use lib.ListN.{length, getD, set, replicate, length-set, length-replicate}
 use lib.Seq.{getD-set-same, getD-set-other}
 use Rattle.rows.specs.Rows.{bit, marked, linkedIn, wordsFor, Between, Narrow, With, Linked, Differ, Minus, Meet, slotsMax, rowWords, inWord}
 use Rattle.lists.proofs.Tests.{and-T, T-and, eq-T, is-false}
@@ -79,12 +79,6 @@ mark-elsewhere row i v z t e = word-none row v (rw e z) t
 -- from the first word on all marks are left
 pub from-first : (marks : ℕ → Bool) (v : ℕ) → T (marks v) → T (fromWord 0 marks v)
 from-first marks v t = word-from 0 marks v (omega arith) t
-
--- no row has marks past its words
-pub from-past : (row : List ℕ) (i : ℕ) → length row ≤ i → (v : ℕ) → ¬ T (fromWord i (marked row) v)
-from-past row i l v t =
-    let s = from-word i (marked row) v t in
-    word-none row v (List·getD-eq-default row 0 (omega (arith, s .0))) (s .1)
 
 -- the marks of later words are above those of the words before
 pub from-part : (i : ℕ) (marks : ℕ → Bool) → Part marks (fromWord i marks)

@@ -1,12 +1,11 @@
 -- `push_field` stores whole bytes and holds the rest. Assumes nothing.
-use mathlib.Core.Path.{_≡_, ap, _∙_}
+use mathlib.Core.Path.{_≡_}
 use Prim.Native.Nat.{_+_, _*_, _%_, _^_, _≤_, _<_}
 use native.Mathlib.Omega.{arith}
 use lib.ListN.{length}
 use lib.Pow.{shl-exact}
 use lib.Bits.{bitOr, or-shifted}
 use Rattle.bits.proofs.Masks.{mask-made, masked}
-use Rattle.bits.proofs.Writing.{length-putField}
 use Rattle.bits.proofs.Pushing.{Pushing, push-begun, push-next, push-ended, pushing-long}
 use borrow.Author.Needs.{needs}
 use Rattle.bits.proofs.push_field.Statement.{statement}

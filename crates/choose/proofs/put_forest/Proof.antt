@@ -1,13 +1,11 @@
 -- `put_forest` writes the nodes, slot by slot. Assumes nothing.
-use mathlib.Core.Path.{_≡_, ap, _∙_}
+use mathlib.Core.Path.{_≡_, ap}
 use Prim.Native.Nat.{ℕ, _+_, _-_, _*_, _/_, _%_, _^_, _≤_, _<_}
 use native.Mathlib.Omega.{arith}
 use native.Mathlib.Nat.{mul-le-mul, mul-le-mul-right, suc-mul}
-use borrow.Author.Needs.{needs}
 use lib.Bits.{bitOr, or-shifted}
 use lib.ListN.{length, getD}
 use lib.Pow.{shl-exact}
-use Rattle.bits.specs.Bits.{putField}
 use Rattle.packing.specs.Holding.{Put}
 use Rattle.picture.proofs.Editions.{widths}
 use Rattle.picture.proofs.Starts.{few}

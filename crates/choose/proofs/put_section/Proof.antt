@@ -1,12 +1,10 @@
 -- `put_section` writes the fields of a section. Assumes nothing.
 use mathlib.Core.Path.{refl}
-use Prim.Native.Nat.{ℕ}
 use native.Mathlib.Omega.{arith}
 use Rattle.packing.specs.Packing.{fieldsOf}
 use Rattle.packing.specs.Holding.{span}
 use Rattle.packing.proofs.Putting.{put-behind, put-same, puts-none, puts-next}
 use Rattle.evidence.specs.Layout.{sectionHeadWidths}
-use Rattle.evidence.proofs.Places.{section-bytes}
 use Rattle.choose.specs.Writing.{arraySection, SectionFits}
 use borrow.Author.Needs.{needs}
 use Rattle.choose.proofs.put_section.Statement.{statement}

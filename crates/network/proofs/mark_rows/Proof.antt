@@ -11,10 +11,9 @@ use Rattle.lists.specs.Lists.{any}
 use Rattle.picture.specs.declared.Header.{Header}
 use Rattle.picture.specs.declared.Link.{Link}
 use Rattle.picture.specs.Inner.{Read}
-use Rattle.picture.specs.Layout.{edition1}
 use Rattle.picture.specs.Picture.{Picture, pictureOf, pictureWith}
 use Rattle.picture.specs.Rules.{noLink}
-use Rattle.picture.proofs.Facts.{read-picture, read-sizes, read-limited, read-links, read-services, read-links-length, read-services-length, read-slots-most}
+use Rattle.picture.proofs.Facts.{read-picture, read-limited, read-links, read-services, read-links-length, read-services-length, read-slots-most}
 use Rattle.network.specs.Words.{joins}
 use Rattle.network.specs.Rows.{RowsOf, countOf, rowsFor, tableOf}
 use Rattle.network.proofs.Making.{Linking, linking-begun, linking-next, linking-ended}
