@@ -151,7 +151,7 @@ fn add_section(
     let n = h.slots;
     let d = h.endpoints;
     let words = rows::words_for(n);
-    let forest = graph::walk(*links, held, n, network::block_range(h.block_size, b));
+    let forest = graph::walk_without(*links, held, n, network::block_range(h.block_size, b));
     let still = forest.reached;
     let lost = weigh::lost_between(services, weights, protected, d, reached, still, words);
     let w = Cost {
@@ -244,7 +244,7 @@ pub fn write_evidence(s: &[u8], h: Header, p: Plan, buf: &mut [u8])
     network::link_rows(s, h, &mut links);
     network::service_link_rows(s, h, &mut services);
     let protected = network::endpoint_rows(s, h, &mut weights);
-    let forest = graph::walk(links, held, n, rows::no_range());
+    let forest = graph::walk(links, held, n);
     let reached = forest.reached;
     let none = [0u64; WORDS];
     let all = weigh::lost_between(&services, &weights, protected, d, reached, none, words);

@@ -2,7 +2,7 @@
 ghost use Prim.Native.Nat.{_<_};
 ghost use lib.Dec.{eqb};
 ghost use Rattle.rows.specs.Rows.{marked, linkedIn, inWord, Narrow, marksMax};
-ghost use Rattle.rows.specs.Ranges.{without, avoiding};
+ghost use Rattle.rows.specs.Ranges.{noRange, without, avoiding};
 ghost use Rattle.graph.specs.Held.{heldIn, SlotsOnly};
 ghost use Rattle.graph.specs.Steps.{Walked};
 ghost use Rattle.graph.specs.Sweeps.{Locations, Whole, Ready, Entered, WordSwept, Swept};
@@ -167,9 +167,14 @@ fn level(
 
 // The forest of the chains over the links through those of the slots 1 to n that are held, but for those of a range. These are told by their
 // numbers where they would be entered, so `fresh` keeps their marks to the end.
-pub fn walk(links: [[u64; WORDS]; LOCATIONS], held: [u64; WORDS], n: usize, block: Range) -> Forest
+fn walk_over(
+    links: &[[u64; WORDS]; LOCATIONS],
+    held: [u64; WORDS],
+    n: usize,
+    block: Range,
+) -> Forest
     requires { ⌜ SlotsOnly n held ⌝ }
-    ensures { λ r. ⌜ Walked (linkedIn links) (without block (heldIn held)) (marked (r .reached)) (r .parent) (r .depth) ⌝ }
+    ensures { λ r. ⌜ Walked (linkedIn (now (links .entry))) (without block (heldIn held)) (marked (r .reached)) (r .parent) (r .depth) ⌝ }
 {
     let words = rows::words_for(n);
     let mut parent = [0u16; LOCATIONS];
@@ -185,7 +190,7 @@ pub fn walk(links: [[u64; WORDS]; LOCATIONS], held: [u64; WORDS], n: usize, bloc
         let before = fresh;
         d += 1;
         level(
-            &links,
+            links,
             frontier,
             words,
             block,
@@ -203,4 +208,25 @@ pub fn walk(links: [[u64; WORDS]; LOCATIONS], held: [u64; WORDS], n: usize, bloc
         depth,
         reached,
     }
+}
+
+// The walks take their table by value and lend it, so that the compiler need not copy it: through the held slots,
+pub fn walk(links: [[u64; WORDS]; LOCATIONS], held: [u64; WORDS], n: usize) -> Forest
+    requires { ⌜ SlotsOnly n held ⌝ }
+    ensures { λ r. ⌜ Walked (linkedIn links) (without noRange (heldIn held)) (marked (r .reached)) (r .parent) (r .depth) ⌝ }
+{
+    walk_over(&links, held, n, rows::no_range())
+}
+
+// and through those that are not of a range.
+pub fn walk_without(
+    links: [[u64; WORDS]; LOCATIONS],
+    held: [u64; WORDS],
+    n: usize,
+    block: Range,
+) -> Forest
+    requires { ⌜ SlotsOnly n held ⌝ }
+    ensures { λ r. ⌜ Walked (linkedIn links) (without block (heldIn held)) (marked (r .reached)) (r .parent) (r .depth) ⌝ }
+{
+    walk_over(&links, held, n, block)
 }

@@ -127,8 +127,8 @@ pub fn weigh_block(s: &[u8], h: Header, b: usize) -> Weights
     let protected = network::endpoint_rows(s, h, &mut weights);
     let slots = network::slot_rows(s, h);
     let held = slots.held;
-    let before = graph::walk(links, held, n, rows::no_range());
-    let after = graph::walk(links, held, n, network::block_range(size, b));
+    let before = graph::walk(links, held, n);
+    let after = graph::walk_without(links, held, n, network::block_range(size, b));
     let reached = before.reached;
     let still = after.reached;
     let none = [0u64; WORDS];

@@ -26,20 +26,20 @@ words-for-requires c κs = search needs
 block-range-requires : tie.Need-block-range-requires
 block-range-requires c κs = let p = c .before .before .before .pre in read-block _ _ (p .rows .read) _ (p .block)
 
-walk-requires : tie.Need-walk-requires
-walk-requires c κs = let p = c .before .before .before .before .pre in slots-only (p .rows .read) (p .slots)
+walk-without-requires : tie.Need-walk-without-requires
+walk-without-requires c κs = let p = c .before .before .before .before .pre in slots-only (p .rows .read) (p .slots)
 
 -- the walk without the block
-rest : (c : tie.After-walk) → let a = c .before .before .before .before .before .args in
-    let r = c .walk .result in Walked (linkedIn (a .links .now)) (without (blockRange (a .h .«block_size») (a .b)) (heldIn (a .held))) (marked (r .reached)) (r .parent) (r .depth)
-rest c = rw (c .before .block-range .ensures) at (c .walk .ensures)
+rest : (c : tie.After-walk-without) → let a = c .before .before .before .before .before .args in
+    let r = c .walk-without .result in Walked (linkedIn (a .links .now)) (without (blockRange (a .h .«block_size») (a .b)) (heldIn (a .held))) (marked (r .reached)) (r .parent) (r .depth)
+rest c = rw (c .before .block-range .ensures) at (c .walk-without .ensures)
 
 lost-between-requires : tie.Need-lost-between-requires
 lost-between-requires c κs =
     let p = start c .pre in
     let r = p .rows in
     let words = c .before .before .before .before .words-for .ensures in
-    sums-ready _ _ (r .read) (r .services) (r .ends) (rw words (r .narrow)) (walk-narrow (r .read) (p .slots) _ words (c .before .walk .ensures))
+    sums-ready _ _ (r .read) (r .services) (r .ends) (rw words (r .narrow)) (walk-narrow (r .read) (p .slots) _ words (c .before .walk-without .ensures))
 
 cast-t21 : tie.Need-cast-t21
 cast-t21 c = search needs
@@ -51,10 +51,10 @@ cast-t23 : tie.Need-cast-t23
 cast-t23 c = search needs
 
 -- the forest has a parent and a depth for every location
-parents : (c : tie.After-lost-between) → length (c .before .before .walk .result .parent) ≡ locationsMax
+parents : (c : tie.After-lost-between) → length (c .before .before .walk-without .result .parent) ≡ locationsMax
 parents c = search needs
 
-depths : (c : tie.After-lost-between) → length (c .before .before .walk .result .depth) ≡ locationsMax
+depths : (c : tie.After-lost-between) → length (c .before .before .walk-without .result .depth) ≡ locationsMax
 depths c = search needs
 
 put-section-requires : tie.Need-put-section-requires
@@ -78,7 +78,7 @@ add-section-spec =
     (tie.spec
     words-for-requires
     block-range-requires
-    walk-requires
+    walk-without-requires
     lost-between-requires
     cast-t21
     cast-t22

@@ -29,7 +29,7 @@ use Rattle.choose.proofs.write_evidence.Tie as tie
 -- ---- the places of the code, each from the next
 
 abbrev linked : tie.After-walk → tie.After-link-rows
-linked c = c .before .before .before .before .before .before
+linked c = c .before .before .before .before .before
 
 abbrev worded : tie.After-walk → tie.After-words-for
 worded c = linked c .before .before
@@ -56,8 +56,8 @@ fits : (c : tie.After-walk) → lengthFor (bytes c) ≤ length (start c .args .b
 fits c = let p = start c .pre in omega (arith, p .planned .long, p .room)
 
 -- the rows of the picture
-abbrev rows : (c : tie.After-walk) → let links = linked c .link-rows in let services = c .before .before .before .before .service-link-rows in
-    let ends = c .before .before .endpoint-rows in
+abbrev rows : (c : tie.After-walk) → let links = linked c .link-rows in let services = c .before .before .before .service-link-rows in
+    let ends = c .before .endpoint-rows in
     WeighRows (bytes c) (start c .args .h) (links .last .1 .1 .0) (services .last .1 .1 .0) (ends .last .1 .1 .0) (ends .result) (c .walk .result .reached)
 rows c =
     let links = linked c .link-rows .ensures in
@@ -65,11 +65,11 @@ rows c =
     record {
       read = p .read;
       links = links;
-      services = c .before .before .before .before .service-link-rows .ensures;
-      ends = c .before .before .endpoint-rows .ensures;
+      services = c .before .before .before .service-link-rows .ensures;
+      ends = c .before .endpoint-rows .ensures;
       parents = c .walk .result .parent;
       depths = c .walk .result .depth;
-      now = now-walked (p .planned .slots) links (rw (c .before .no-range .ensures) at (c .walk .ensures));
+      now = now-walked (p .planned .slots) links (c .walk .ensures);
       narrow = walk-narrow (p .read) (p .planned .slots) _ refl (c .walk .ensures);
     }
 
@@ -108,11 +108,8 @@ service-link-rows-requires c κs = (c .before .before .before .before .before .b
 endpoint-rows-requires : tie.Need-endpoint-rows-requires
 endpoint-rows-requires c κs = search needs
 
-no-range-requires : tie.Need-no-range-requires
-no-range-requires c κs = search needs
-
 walk-requires : tie.Need-walk-requires
-walk-requires c κs = let p = c .before .before .before .before .before .before .before .before .before .before .before .before .pre in slots-only (p .read) (p .planned .slots)
+walk-requires c κs = let p = c .before .before .before .before .before .before .before .before .before .before .before .pre in slots-only (p .read) (p .planned .slots)
 
 lost-between-requires : tie.Need-lost-between-requires
 lost-between-requires c κs =
@@ -171,7 +168,6 @@ write-evidence-spec =
     link-rows-requires
     service-link-rows-requires
     endpoint-rows-requires
-    no-range-requires
     walk-requires
     lost-between-requires
     put-forest-requires

@@ -18,7 +18,7 @@ use Rattle.weigh.proofs.weigh_block.Tie as tie
 
 -- where the tables of links, of services and of endpoints and the rows of slots are made, and the entry, from behind the first walk
 abbrev slotted : tie.After-walk → tie.After-slot-rows
-slotted c = c .before .before .before
+slotted c = c .before .before
 
 abbrev weighted : tie.After-slot-rows → tie.After-endpoint-rows
 weighted c = c .before
@@ -60,17 +60,14 @@ endpoint-rows-requires c κs = search needs
 slot-rows-requires : tie.Need-slot-rows-requires
 slot-rows-requires c κs = search needs
 
-no-range-requires : tie.Need-no-range-requires
-no-range-requires c κs = search needs
-
 walk-requires : tie.Need-walk-requires
-walk-requires c κs = let s = c .before .before in slots-only (entry s .pre .0) (s .slot-rows .ensures)
+walk-requires c κs = let s = c .before in slots-only (entry s .pre .0) (s .slot-rows .ensures)
 
 block-range-requires : tie.Need-block-range-requires
 block-range-requires c κs = let s = start c in read-block _ _ (s .pre .0) _ (s .pre .1)
 
-walk-requires-2 : tie.Need-walk-requires-2
-walk-requires-2 c κs = let s = slotted (c .before) in slots-only (entry s .pre .0) (s .slot-rows .ensures)
+walk-without-requires : tie.Need-walk-without-requires
+walk-without-requires c κs = let s = slotted (c .before) in slots-only (entry s .pre .0) (s .slot-rows .ensures)
 
 -- both walks are walks over the picture
 links : (c : tie.After-walk) → RowsOf locationsMax (joins (shown c .links)) (linked (serving (weighted (slotted c))) .link-rows .last .1 .1 .0)
@@ -78,22 +75,22 @@ links c = linked (serving (weighted (slotted c))) .link-rows .ensures
 
 now : (c : tie.After-walk) → let r = c .walk .result in
     Walked (joins (shown c .links)) (isHeld (shown c)) (marked (r .reached)) (r .parent) (r .depth)
-now c = now-walked (slotted c .slot-rows .ensures) (links c) (rw (c .before .no-range .ensures) at (c .walk .ensures))
+now c = now-walked (slotted c .slot-rows .ensures) (links c) (c .walk .ensures)
 
-left : (c : tie.After-walk2) → let w = c .before .before in let r = c .walk2 .result in
+left : (c : tie.After-walk-without) → let w = c .before .before in let r = c .walk-without .result in
     Walked (joins (shown w .links)) (heldWithout (shown w) (evicted w)) (marked (r .reached)) (r .parent) (r .depth)
 left c =
     let w = c .before .before in
-    left-walked (slotted w .slot-rows .ensures) (links w) (evicted w) (read-block-size _ _ (start w .pre .0)) (rw (c .before .block-range .ensures) at (c .walk2 .ensures))
+    left-walked (slotted w .slot-rows .ensures) (links w) (evicted w) (read-block-size _ _ (start w .pre .0)) (rw (c .before .block-range .ensures) at (c .walk-without .ensures))
 
 -- what the walks reach is in the words that the header's slots take
 narrow : (c : tie.After-walk) → Narrow (worded (slotted c) .words-for .result) (c .walk .result .reached)
 narrow c = walk-narrow (start c .pre .0) (slotted c .slot-rows .ensures) _ (worded (slotted c) .words-for .ensures) (c .walk .ensures)
 
-narrow-left : (c : tie.After-walk2) → Narrow (worded (slotted (c .before .before)) .words-for .result) (c .walk2 .result .reached)
+narrow-left : (c : tie.After-walk-without) → Narrow (worded (slotted (c .before .before)) .words-for .result) (c .walk-without .result .reached)
 narrow-left c =
     let w = c .before .before in
-    walk-narrow (start w .pre .0) (slotted w .slot-rows .ensures) _ (worded (slotted w) .words-for .ensures) (c .walk2 .ensures)
+    walk-narrow (start w .pre .0) (slotted w .slot-rows .ensures) _ (worded (slotted w) .words-for .ensures) (c .walk-without .ensures)
 
 lost-between-requires : tie.Need-lost-between-requires
 lost-between-requires c κs =
@@ -137,10 +134,9 @@ weigh-block-spec =
     service-link-rows-requires
     endpoint-rows-requires
     slot-rows-requires
-    no-range-requires
     walk-requires
     block-range-requires
-    walk-requires-2
+    walk-without-requires
     lost-between-requires
     lost-between-requires-2
     returns)
