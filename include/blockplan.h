@@ -87,7 +87,7 @@ extern "C" {
 #define BLOCKPLAN_24_BITS(at) ((uint32_t)(at)[0] << 16 | (uint32_t)(at)[1] << 8 | (uint32_t)(at)[2])
 
 /* The most stack that a call takes, in bytes. */
-#define BLOCKPLAN_STACK 57344
+#define BLOCKPLAN_STACK 40960
 
 /*
  * The numbers of refusals. Every call judges the picture first (1 to 7, 17 and 18, in the page's order: the picture's numbers); write, which is
