@@ -107,6 +107,10 @@ fieldAt-byte bs k h =
         let place : 7 - (k * 8 + i) % 8 ≡ 8 - suc i = omega arith in
         ap₂ (λ (j e : ℕ). getD bs j 0 / 2 ^ e % 2) byte place
 
+-- so what has no digits before a byte is the field of that byte
+pub fieldAt-first : (bs : List ℕ) (k : ℕ) {r : ℕ} → getD bs k 0 < 256 → r ≡ 0 * 256 + getD bs k 0 → r ≡ fieldAt bs (k * 8) 8
+fieldAt-first bs k h e = omega (arith, e, fieldAt-byte bs k h)
+
 -- one byte more: v is the bytes from k on up to i, and r is v with byte k + i behind it
 pub fieldAt-more : (bs : List ℕ) (k i : ℕ) {v r : ℕ} → v ≡ fieldAt bs (k * 8) (i * 8) → getD bs (k + i) 0 < 256 → r ≡ v * 256 + getD bs (k + i) 0
     → r ≡ fieldAt bs (k * 8) ((i + 1) * 8)

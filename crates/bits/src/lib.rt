@@ -1,5 +1,6 @@
 // Bit fields of a general width at any bit position of a byte slice, the most significant bit first.
-// A field is read from a window of four bytes and written a byte at a time, with shifts and masks; fields that follow each other are pushed.
+// A field is read from a window of four bytes and written a byte at a time, with shifts and masks; fields that follow each other are pushed,
+// and those of whole bytes are read and stored as such.
 ghost use mathlib.Core.Path.{_≡_};
 ghost use Prim.Native.Nat.{_+_, _*_, _/_, _%_, _^_, _≤_, _<_};
 ghost use lib.ListN.{length, set};
@@ -88,6 +89,19 @@ pub fn put_field(s: &mut [u8], p: usize, w: usize, v: usize)
         put_in_byte(s, at, next, v >> (left - next));
         done += next;
     }
+}
+
+// The number in the bytes from byte k on, two of them or three: a field of whole bytes.
+pub fn bytes(s: &[u8], k: usize, count: usize) -> usize
+    requires { ⌜ (k + count ≤ length (now s)) × (2 ≤ count) × (count ≤ 3) ⌝ }
+    ensures { λ r. ⌜ r ≡ fieldAt (now (s .entry)) (k * 8) (count * 8) ⌝ }
+{
+    let one = then_byte(0, s[k]);
+    let two = then_byte(one, s[k + 1]);
+    if 2 < count {
+        return then_byte(two, s[k + 2]);
+    }
+    two
 }
 
 // Byte k becomes b.

@@ -3,7 +3,7 @@ use mathlib.Core.Path.{_≡_, refl, sym, ap, _∙_, subst, fun-ext}
 use mathlib.Core.Bool.{Bool, true, false}
 use mathlib.Core.Logic.{_⊎_, inl, inr, _≢_, by-cases}
 use mathlib.Core.List.{List, []}
-use Prim.Native.Nat.{ℕ, zero, suc, _+_, _-_, _*_, _^_, _≤_, _<_, zero-le, suc-le-suc}
+use Prim.Native.Nat.{ℕ, zero, suc, _+_, _-_, _*_, _/_, _≤_, _<_, zero-le, suc-le-suc}
 use native.Mathlib.Omega.{arith}
 use native.Mathlib.Decide.{ℕ-discrete}
 use lib.Dec.{T, eqb·suc-zero}
@@ -36,7 +36,7 @@ use Rattle.weigh.specs.declared.Lost.{Lost}
 use Rattle.weigh.specs.Sums.{Small, Meets, LostBetween}
 use Rattle.network.proofs.Blocks.{read-slots, read-block-size, read-endpoints, read-block}
 use Rattle.weigh.proofs.Serving.{serving, sums-ready, served-met, loss-met, cuts-met, mark-met}
-use Rattle.evidence.specs.Layout.{forestAt}
+use Rattle.evidence.specs.Layout.{forestAt, evidenceBytes}
 use Rattle.evidence.specs.Contents.{sectionIn, forestIn}
 use Rattle.evidence.specs.Checks.{nodeRight, formRight}
 use Rattle.evidence.specs.Rules.{Form}
@@ -44,7 +44,8 @@ use Rattle.evidence.proofs.Fields.{candidates-few}
 use Rattle.evidence.proofs.Forests.{test-in, in-test}
 use Rattle.evidence.proofs.Judging.{right-form}
 use Rattle.evidence.proofs.Places.{forest-place-low}
-use Rattle.checker.specs.Forests.{evictedIn, statedTest, partFault, partsFault, CutsOf}
+use Rattle.evidence.proofs.Lengths.{forest-starts, forest-room}
+use Rattle.checker.specs.Forests.{Room, evictedIn, statedTest, partFault, partsFault, CutsOf}
 use Rattle.checker.proofs.Nodes.{forest-length}
 use Rattle.checker.proofs.Following.{Followed, Closed, node-broken, evicted-broken, link-broken, inner-in, inner-within, forest-kept}
 use Rattle.checker.proofs.Parts.{blockAt, heldAt, statedAt, part-broken, part-wrong, part-right, formed-block, held-found, stated-found}
@@ -142,24 +143,24 @@ pub record Gone (x : Given) (row : List ℕ) (k : ℕ) : Type 0 where
 abbrev pub Counted : Given → List ℕ → ℕ → Type 0
 Counted x cuts k = CutsOf (pic x) cuts (k - 1)
 
--- part k is at hand: its forest starts at bit q, and these slots are evicted in it
-pub record PartAt (x : Given) (row : List ℕ) (k q : ℕ) (evicted : Range) : Type 0 where
+-- part k is at hand: its forest starts at byte `at`, and these slots are evicted in it
+pub record PartAt (x : Given) (row : List ℕ) (k at : ℕ) (evicted : Range) : Type 0 where
   pub gone : Gone x row k
   pub most : k ≤ x .count
-  pub at : q ≡ startOf x k
-  pub small : q < 2 ^ 21
+  pub starts : at * 8 ≡ startOf x k
+  pub room : Room (x .h) (x .ev) at
   pub slots : evicted ≡ evictedIn (x .h .«block_size») (sectionBlock x k) k
   pub low : evicted .last < marksMax
 
 -- the slots of its forest were followed: these are in it, and these are held and not in it
 pub record Inside (x : Given) (row : List ℕ) (k : ℕ) (evicted : Range) (inner outer : List ℕ) : Type 0 where
-  pub q : ℕ
+  pub at : ℕ
   pub slots : List ℕ
-  pub part : PartAt x row k q evicted
+  pub part : PartAt x row k at evicted
   pub with : With slots 0 inner
   pub minus : Minus (x .held) inner outer
   pub v : ℕ
-  pub followed : Followed (x .links) (heldIn (x .held)) (forest x q) slots v
+  pub followed : Followed (x .links) (heldIn (x .held)) (forest x (at * 8)) slots v
   pub ended : x .h .slots < v
   pub apart : (u : ℕ) → T (inRange evicted u) → ¬ T (marked slots u)
 
@@ -216,6 +217,21 @@ module _ {x : Given} (t : Tables x) where
   pub held-narrow : Narrow (x .words) (x .held)
   held-narrow = table-narrow (x .held) (λ v m. omega (arith, t .slots .slots .within v m, table-slots))
 
+  -- where the forest of a part starts: at a whole byte, from which the evidence has room for it
+  table-starts : (k : ℕ) → startOf x k / 8 * 8 ≡ startOf x k
+  table-starts = forest-starts (table-limited .known) (x .h .slots)
+
+  table-room : {k : ℕ} → k ≤ x .count → Room (x .h) (x .ev) (startOf x k / 8)
+  table-room {k} l =
+      let e = x .h .edition in
+      let c = length (candidates (pic x)) in
+      let within : k ≤ c = omega (arith, t .counted) in
+      let long : length (x .ev) ≡ evidenceBytes e (x .h .slots) c = t .form .size ∙ ap (λ (n : ℕ). evidenceBytes e n c) table-slots in
+      record {
+        small = omega (arith, forest-place-low (x .h) table-limited k (omega (arith, t .few-parts)));
+        within = omega (arith, long, forest-room (table-limited .known) (x .h .slots) within);
+      }
+
 -- ---- the numbers of endpoints cut
 
 pub cuts-none : {p : Picture} {cuts : List ℕ} → length cuts ≡ blocksMax → CutsOf p cuts 0
@@ -249,13 +265,12 @@ module _ {x : Given} where
       scan-ended (faultOf x) 0 (parts (x .bs)) k (g .clean) (omega (arith, length-range 0 (suc (length (candidates (pic x)))), g .tables .counted))
 
   -- a part is at hand
-  pub part-begun : {row : List ℕ} {k q : ℕ} {evicted : Range} → Gone x row k → k ≤ x .count → q ≡ startOf x k
-      → evicted ≡ evictedIn (x .h .«block_size») (sectionBlock x k) k → PartAt x row k q evicted
+  pub part-begun : {row : List ℕ} {k at : ℕ} {evicted : Range} → Gone x row k → k ≤ x .count → at ≡ startOf x k / 8
+      → evicted ≡ evictedIn (x .h .«block_size») (sectionBlock x k) k → PartAt x row k at evicted
   part-begun {k = k} {evicted = evicted} g l e h =
       let t = g .tables in
       let last : evicted .last < marksMax = rw h (evicted-low (x .h .«block_size») (sectionBlock x k) k (λ s. t .room k s l)) in
-      let small = forest-place-low (x .h) (table-limited t) k (omega (arith, t .few-parts)) in
-      record { gone = g; most = l; at = e; small = omega arith; slots = h; low = last }
+      record { gone = g; most = l; starts = rw e (table-starts t k); room = rw e (table-room t l); slots = h; low = last }
 
   module _ (t : Tables x) {row inner : List ℕ} where
     sums-found : {k : ℕ} {before after : List ℕ} {lost : Lost} → Sides row inner k before after → Serves x (heldAt (pic x) k) inner
@@ -280,12 +295,12 @@ module _ {x : Given} where
     still whole now r = now
     still less now r = r (suc-le-suc zero-le)
 
-  module _ {row : List ℕ} {k q : ℕ} {evicted : Range} (a : PartAt x row k q evicted) where
+  module _ {row : List ℕ} {k at : ℕ} {evicted : Range} (a : PartAt x row k at evicted) where
     abbrev t : Tables x
     t = a .gone .tables
 
     abbrev es : List Node
-    es = forest x q
+    es = forest x (at * 8)
 
     most : k ≤ length (candidates (pic x))
     most = omega (arith, a .most, t .counted)
@@ -303,7 +318,7 @@ module _ {x : Given} where
         let links-same : linkedIn (x .links) ≡ joins (pic x .links) = fun-ext (λ u. fun-ext (λ v. t .link-rows .same u v)) in
         let holds = held-found (x .bs) (x .ev) (t .read) (t .form) (t .slots) k most in
         let held-same : without evicted (heldIn (x .held)) ≡ heldAt (pic x) k = rw (a .slots, ← read-block-size (x .bs) (x .h) (t .read)) (fun-ext holds) in
-        rw (links-same, held-same, a .at)
+        rw (links-same, held-same, a .starts)
 
     broken : ¬ ForestKept (linkedIn (x .links)) (without evicted (heldIn (x .held))) (x .h .slots) es → 14 ≡ partsFault (x .bs) (x .ev)
     broken b = stopped (λ z. absurd (omega arith)) (part-broken (x .bs) (x .ev) (t .read) k most (λ y. b (rw same y)))
@@ -315,14 +330,14 @@ module _ {x : Given} where
     -- an evicted slot is in the forest
     pub part-evicted : {slots : List ℕ} {v : ℕ} → Followed (x .links) (heldIn (x .held)) es slots v → x .h .slots < v → T (any (marked slots) (range (evicted .after + 1) (evicted .last - evicted .after)))
         → 14 ≡ partsFault (x .bs) (x .ev)
-    part-evicted f e t = let s = any-in-range evicted _ t in broken (evicted-broken (x .held) evicted (forest-length (x .h .edition) (x .h .slots) (x .ev) q) f e (s .0) (s .1) (s .2))
+    part-evicted f e t = let s = any-in-range evicted _ t in broken (evicted-broken (x .held) evicted (forest-length (x .h .edition) (x .h .slots) (x .ev) (at * 8)) f e (s .0) (s .1) (s .2))
 
   module _ {row : List ℕ} {k : ℕ} {evicted : Range} {inner outer : List ℕ} (i : Inside x row k evicted inner outer) where
     abbrev g : Gone x row k
     g = i .part .gone
 
-    len : length (forest x (i .q)) ≡ x .h .slots
-    len = forest-length (x .h .edition) (x .h .slots) (x .ev) (i .q)
+    len : length (forest x (i .at * 8)) ≡ x .h .slots
+    len = forest-length (x .h .edition) (x .h .slots) (x .ev) (i .at * 8)
 
     -- what is in the forest and what is held and not in it are in the words that are looked at
     inner-narrow : Narrow (x .words) inner
@@ -353,7 +368,7 @@ module _ {x : Given} where
       now : Serves x (heldAt (pic x) k) inner
       now =
           let here = inner-in (x .held) evicted len (i .followed) (i .ended) (i .with) (i .minus) in
-          let fit = rw (← i .part .at) at kept in
+          let fit = rw (← i .part .starts) at kept in
           serving (pic x) (heldAt (pic x) k) (table-named (g .tables)) (g .tables .service-rows) (λ v z. kept-reached fit len v (test-in _ v (subst T (here v) z)))
           (λ v z. subst T (sym (here v)) (in-test _ v (reached-kept fit z)))
 

@@ -1,28 +1,32 @@
 -- The nodes of a forest in the evidence, and what the test of one node comes to. Assumes nothing.
-use mathlib.Core.Path.{_≡_, refl, _∙_}
+use mathlib.Core.Path.{_≡_, refl, ap₂, _∙_}
 use mathlib.Core.Bool.{Bool, true, false, not, and-false, and-true}
 use mathlib.Core.Logic.{_≢_}
 use mathlib.Core.List.{List}
-use Prim.Native.Nat.{ℕ, _+_, _^_, _≤_, _<_}
+use Prim.Native.Nat.{ℕ, suc, _+_, _-_, _*_, _^_, _≤_, _<_}
 use native.Mathlib.Omega.{arith}
+use native.Mathlib.Nat.{mul-le-mul-right, suc-mul}
 use borrow.Author.Tests.{eq-eqb, ne-eqb}
 use lib.Dec.{eqb}
 use lib.ListN.{length}
 use Rattle.lists.specs.Lists.{item, sum}
 use Rattle.lists.proofs.Tests.{eqb-comm}
+use Rattle.bits.specs.Bits.{fieldAt}
 use Rattle.bits.proofs.Reading.{fieldAt-below}
 use Rattle.graph.specs.declared.Node.{Node}
 use Rattle.graph.specs.Kept.{nodeOf}
 use Rattle.graph.proofs.Keeping.{node-above}
 use Rattle.picture.specs.declared.Edition.{Edition}
+use Rattle.picture.specs.declared.Header.{Header}
 use Rattle.picture.specs.Layout.{fieldIn}
 use Rattle.picture.specs.Inner.{Known}
 use Rattle.picture.proofs.Editions.{widths}
 use Rattle.picture.proofs.Starts.{length-rows, item-row}
-use Rattle.evidence.specs.Layout.{nodeWidths}
+use Rattle.evidence.specs.Layout.{nodeWidths, nodeBytes, forestBits}
 use Rattle.evidence.specs.Contents.{nodeAt, forestIn}
 use Rattle.evidence.specs.Checks.{isIn, nodeRight}
-use Rattle.checker.specs.Forests.{nodeFrom}
+use Rattle.evidence.proofs.Places.{node-whole, forest-whole}
+use Rattle.checker.specs.Forests.{Room, nodeFrom}
 
 -- ---- the nodes
 
@@ -34,6 +38,21 @@ module _ (e : Edition) (n : ℕ) (ev : List ℕ) (q : ℕ) where
   pub node-read : (v : ℕ) → 1 ≤ v → v ≤ n → nodeOf (forestIn e n ev q) v ≡ nodeFrom e ev q v
   unfolding forestIn nodeOf nodeFrom
   node-read v l m = item-row (nodeAt e ev) _ q (sum (nodeWidths e)) n v l m
+
+-- a node is a field of whole bytes
+pub node-field : {e : Edition} → Known e → (ev : List ℕ) (at v : ℕ) → let w = e .«location_bits» in
+    fieldAt ev ((at + (v - 1) * nodeBytes e) * 8) (nodeBytes e * 8) ≡ fieldAt ev (at * 8 + (v - 1) * sum (nodeWidths e)) (w + w)
+unfolding forestBits nodeWidths sum
+node-field {e} known ev at v =
+    let place : (at + (v - 1) * nodeBytes e) * 8 ≡ at * 8 + (v - 1) * sum (nodeWidths e) = omega (arith, forest-whole known (v - 1)) in
+    ap₂ (fieldAt ev) place (omega (arith, node-whole known))
+
+-- where evidence has room for a forest, it has room for each of its nodes
+pub node-room : {h : Header} {ev : List ℕ} {at v : ℕ} → Room h ev at → 1 ≤ v → v ≤ h .slots
+    → at + (v - 1) * nodeBytes (h .edition) + nodeBytes (h .edition) ≤ length ev
+node-room {h} {v = v} r l m =
+    let one : suc (v - 1) ≤ h .slots = omega arith in
+    omega (arith, r .within, mul-le-mul-right (nodeBytes (h .edition)) one, suc-mul (v - 1) (nodeBytes (h .edition)))
 
 -- a depth is a field of as many bits as a location has
 pub depth-small : {e : Edition} → Known e → (ev : List ℕ) (q v : ℕ) → nodeFrom e ev q v .depth < 2 ^ 12

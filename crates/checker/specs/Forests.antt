@@ -2,7 +2,7 @@
 use mathlib.Core.Path.{_≡_}
 use mathlib.Core.Bool.{Bool, not, _&&_, cond}
 use mathlib.Core.List.{List, [], _∷_, map}
-use Prim.Native.Nat.{ℕ, zero, suc, _+_, _-_, _*_, _<_}
+use Prim.Native.Nat.{ℕ, zero, suc, _+_, _-_, _*_, _^_, _≤_, _<_}
 use lib.Dec.{eqb}
 use lib.ListN.{length, getD}
 use Rattle.lists.specs.Lists.{range, on, first, sum}
@@ -10,16 +10,22 @@ use Rattle.rows.specs.declared.Range.{Range}
 use Rattle.rows.specs.Ranges.{noRange}
 use Rattle.graph.specs.declared.Node.{Node}
 use Rattle.picture.specs.declared.Edition.{Edition}
+use Rattle.picture.specs.declared.Header.{Header}
 use Rattle.picture.specs.Layout.{editionOf, blocksMax}
 use Rattle.picture.specs.Picture.{Picture, pictureOf}
 use Rattle.network.specs.Words.{slotCount, isHeld}
 use Rattle.network.specs.Tests.{servedWeight, weighed, candidates}
 use Rattle.network.specs.Rows.{blockRange}
 use Rattle.evidence.specs.declared.Stated.{Stated}
-use Rattle.evidence.specs.Layout.{nodeWidths}
+use Rattle.evidence.specs.Layout.{nodeWidths, nodeBytes}
 use Rattle.evidence.specs.Canonical.{weighings}
 use Rattle.evidence.specs.Contents.{headIn, sectionIn, nodeAt, firstForest}
 use Rattle.evidence.specs.Checks.{forestRight, sectionFault}
+
+-- evidence has room for a forest from byte `at` on, which is a small number
+pub record Room (h : Header) (ev : List ℕ) (at : ℕ) : Type 0 where
+  pub small : at < 2 ^ 18
+  pub within : at + h .slots * nodeBytes (h .edition) ≤ length ev
 
 -- node v of the forest that starts at bit q
 unfoldable pub nodeFrom : Edition → List ℕ → ℕ → ℕ → Node

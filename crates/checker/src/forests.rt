@@ -2,7 +2,7 @@
 ghost use mathlib.Core.Path.{_≡_};
 ghost use mathlib.Core.Bool.{true};
 ghost use mathlib.Core.List.{List};
-ghost use Prim.Native.Nat.{ℕ, _+_, _-_, _*_, _^_, _≤_, _<_};
+ghost use Prim.Native.Nat.{ℕ, _+_, _-_, _*_, _≤_};
 ghost use lib.ListN.{length};
 ghost use Rattle.rows.specs.Rows.{marked, linkedIn, Narrow, Meet, locationsMax, rowWords, slotsMax};
 ghost use Rattle.rows.specs.Ranges.{without};
@@ -14,7 +14,8 @@ ghost use Rattle.network.specs.Tests.{candidates};
 ghost use Rattle.network.specs.Rows.{SlotRowsOf};
 ghost use Rattle.evidence.specs.Contents.{sectionIn, forestIn};
 ghost use Rattle.evidence.specs.Checks.{nodeRight, formRight};
-ghost use Rattle.checker.specs.Forests.{nodeFrom, evictedIn, statedTest, partsFault, CutsOf};
+ghost use Rattle.checker.specs.Forests.{Room, nodeFrom, evictedIn, statedTest, partsFault, CutsOf};
+use evidence::BYTE_BITS;
 use graph::Node;
 use network::ENDPOINTS;
 use picture::BLOCKS_MAX;
@@ -26,34 +27,34 @@ use rows::Range;
 use rows::WORDS;
 use weigh::Lost;
 
-// Node v of the forest that starts at bit q, read as one field.
-fn node_at(ev: &[u8], h: Header, q: usize, v: usize) -> Node
-    requires { ⌜ Limited h × (1 ≤ v) × (v ≤ h .slots) × (q < 2 ^ 21) ⌝ }
-    ensures { λ r. ⌜ r ≡ nodeFrom (h .edition) (now (ev .entry)) q v ⌝ }
+// Node v of the forest that starts at byte `at`: whole bytes, the parent before the depth.
+fn node_at(ev: &[u8], h: Header, at: usize, v: usize) -> Node
+    requires { ⌜ Limited h × (1 ≤ v) × (v ≤ h .slots) × Room h (now ev) at ⌝ }
+    ensures { λ r. ⌜ r ≡ nodeFrom (h .edition) (now (ev .entry)) (at * 8) v ⌝ }
 {
     let w = h.edition.location_bits;
-    let size = evidence::node_bits(h.edition);
-    let both = bits::field(ev, q + (v - 1) * size, size);
+    let size = evidence::node_bits(h.edition) / BYTE_BITS;
+    let both = bits::bytes(ev, at + (v - 1) * size, size);
     Node {
         parent: both >> w,
         depth: both & ((1 << w) - 1),
     }
 }
 
-// Whether the node x of slot v keeps its rule in the forest that starts at bit q, where nothing is evicted.
+// Whether the node x of slot v keeps its rule in the forest that starts at byte `at`, where nothing is evicted.
 fn node_right(
     links: &[[u64; WORDS]; LOCATIONS],
     held: &[u64; WORDS],
     ev: &[u8],
     h: Header,
-    q: usize,
+    at: usize,
     v: usize,
     x: Node,
 ) -> bool
-    requires { ⌜ (length (now links) ≡ locationsMax) × (1 ≤ v) × (v ≤ h .slots) × Limited h × (q < 2 ^ 21) ⌝ }
-    requires { ⌜ x ≡ nodeFrom (h .edition) (now ev) q v ⌝ }
+    requires { ⌜ (length (now links) ≡ locationsMax) × (1 ≤ v) × (v ≤ h .slots) × Limited h × Room h (now ev) at ⌝ }
+    requires { ⌜ x ≡ nodeFrom (h .edition) (now ev) (at * 8) v ⌝ }
     ensures { λ r.
-        ⌜ r ≡ nodeRight (linkedIn (now (links .entry))) (heldIn (now (held .entry))) (forestIn (h .edition) (h .slots) (now (ev .entry)) q) v ⌝ }
+        ⌜ r ≡ nodeRight (linkedIn (now (links .entry))) (heldIn (now (held .entry))) (forestIn (h .edition) (h .slots) (now (ev .entry)) (at * 8)) v ⌝ }
 {
     let n = h.slots;
     let parent = x.parent;
@@ -75,7 +76,7 @@ fn node_right(
     if parent == 0 {
         return depth == 1;
     }
-    let above = node_at(ev, h, q, parent).depth;
+    let above = node_at(ev, h, at, parent).depth;
     if above == 0 {
         return false;
     }
@@ -168,13 +169,13 @@ pub fn parts_fault(
     let mut fault: u8 = 0;
     let mut k: usize = 0;
     'check: while k <= count {
-        let q = evidence::forest_at(h, k);
+        let at = evidence::forest_at(h, k) / BYTE_BITS;
         let evicted = evicted_in(ev, h, k);
         let mut slots = none;
         let mut v: usize = 1;
         while v <= n {
-            let x = node_at(ev, h, q, v);
-            let right = node_right(&links, &held, ev, h, q, v, x);
+            let x = node_at(ev, h, at, v);
+            let right = node_right(&links, &held, ev, h, at, v, x);
             if !right {
                 fault = FOREST;
                 break 'check;

@@ -2,10 +2,10 @@
 use mathlib.Core.Path.{_≡_, refl, ap, _∙_}
 use mathlib.Core.Logic.{by-cases}
 use mathlib.Core.List.{List}
-use Prim.Native.Nat.{ℕ, _+_, _*_, _≤_, _<_}
+use Prim.Native.Nat.{ℕ, _+_, _*_, _/_, _≤_, _<_}
 use native.Mathlib.Omega.{arith}
 use native.Mathlib.Decide.{decLe}
-use native.Mathlib.Nat.{mul-le-mul, le-refl}
+use native.Mathlib.Nat.{mul-le-mul, mul-le-mul-right, le-refl}
 use borrow.Author.Tests.{le-ltb}
 use lib.ListN.{length, take, drop}
 use lib.Seq.{take-at}
@@ -18,10 +18,10 @@ use Rattle.picture.specs.Picture.{pictureOf}
 use Rattle.picture.specs.Faults.{pictureFault}
 use Rattle.network.specs.Words.{slotCount}
 use Rattle.network.specs.Tests.{candidates}
-use Rattle.evidence.specs.Layout.{nodeWidths, nodeBytes, sectionBytes, sectionAt, evidenceBytes, evidenceMax}
+use Rattle.evidence.specs.Layout.{nodeWidths, nodeBytes, sectionBytes, sectionAt, forestAt, evidenceBytes, evidenceMax}
 use Rattle.evidence.specs.Canonical.{evidenceOf}
 use Rattle.evidence.specs.Calls.{lengthFor, chooseFault, chosenBytes}
-use Rattle.evidence.proofs.Places.{head-whole, forest-whole, section-bytes, sections-whole}
+use Rattle.evidence.proofs.Places.{head-whole, forest-whole, section-bytes, sections-whole, forest-at}
 use Rattle.evidence.proofs.Fields.{slots-small, blocks-small, candidates-within, candidates-few, blocks-whole, length-evidence}
 
 -- the byte behind the head and the first forest
@@ -37,6 +37,16 @@ module _ {e : Edition} (known : Known e) where
   pub evidence-bytes : (n c : ℕ) → evidenceBytes e n c ≡ sectionsStart e n + c * sectionBytes e n
   unfolding evidenceBytes
   evidence-bytes n c = omega (arith, sections-end n c)
+
+  -- forest k starts at a whole byte, and evidence for at least k candidates has room for it from there on
+  forest-byte : (n k : ℕ) → forestAt e n k ≡ (9 + k * sectionBytes e n) * 8
+  forest-byte n k = omega (arith, forest-at known n k, head-whole, sections-whole known n k)
+
+  pub forest-starts : (n k : ℕ) → forestAt e n k / 8 * 8 ≡ forestAt e n k
+  forest-starts n k = omega (arith, forest-byte n k)
+
+  pub forest-room : (n : ℕ) {k c : ℕ} → k ≤ c → forestAt e n k / 8 + n * nodeBytes e ≤ evidenceBytes e n c
+  forest-room n {k} {c} l = omega (arith, forest-byte n k, evidence-bytes n c, mul-le-mul-right (sectionBytes e n) l)
 
   -- "The length is 9 + 2n + C(5 + 2n)", and in edition 2 "9 + 3n + C(5 + 3n)": a node takes two bytes or three
   pub evidence-length : (n c : ℕ) → evidenceBytes e n c ≡ 9 + n * nodeBytes e + c * (5 + n * nodeBytes e)

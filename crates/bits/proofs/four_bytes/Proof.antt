@@ -1,11 +1,10 @@
 -- `four_bytes` gives the 32 bits from a byte on. Assumes nothing.
-use mathlib.Core.Path.{_≡_, sym, _∙_}
+use mathlib.Core.Path.{_≡_}
 use Prim.Native.Nat.{ℕ, _*_}
 use native.Mathlib.Omega.{arith}
 use borrow.Author.Needs.{needs}
-use lib.ListN.{getD}
 use Rattle.bits.specs.Bits.{fieldAt}
-use Rattle.bits.proofs.Reading.{fieldAt-byte, fieldAt-more, fieldAt-below}
+use Rattle.bits.proofs.Reading.{fieldAt-first, fieldAt-more, fieldAt-below}
 use Rattle.bits.proofs.four_bytes.Statement.{statement}
 use Rattle.bits.proofs.four_bytes.Tie as tie
 
@@ -17,11 +16,7 @@ abbrev bits : tie.After-then-byte → ℕ → ℕ
 bits c w = fieldAt (start c .args .s .now) (start c .args .k * 8) w
 
 one : (c : tie.After-then-byte) → c .then-byte .result ≡ bits c 8
-one c =
-    let a = start c .args in
-    let h = c .before .shared-slice-known2 .given (a .k) in
-    let e : c .then-byte .result ≡ getD (a .s .now) (a .k) 0 = omega arith in
-    e ∙ sym (fieldAt-byte (a .s .now) (a .k) (h .fits))
+one c = fieldAt-first _ _ (c .before .shared-slice-known2 .given _ .fits) (c .then-byte .ensures)
 
 two : (c : tie.After-then-byte2) → c .then-byte2 .result ≡ bits (c .before .before) 16
 two c = fieldAt-more _ _ 1 (one (c .before .before)) (c .before .shared-slice-known3 .given _ .fits) (c .then-byte2 .ensures)

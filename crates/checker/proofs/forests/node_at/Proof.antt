@@ -1,51 +1,65 @@
--- `node_at` reads two adjacent fields as one. Assumes nothing.
-use mathlib.Core.Path.{_≡_, ap, ap₂, _∙_}
-use Prim.Native.Nat.{ℕ, _+_, _-_, _*_, _≤_}
+-- `node_at` reads two adjacent fields as one, from whole bytes. Assumes nothing.
+use mathlib.Core.Path.{_≡_, ap, _∙_}
+use Prim.Native.Nat.{ℕ, _+_, _-_, _*_, _/_, _≤_}
 use native.Mathlib.Omega.{arith}
 use native.Mathlib.Nat.{mul-le-mul}
-use Rattle.lists.specs.Lists.{sum}
-use Rattle.bits.specs.Bits.{fieldAt}
+use lib.ListN.{length}
 use Rattle.bits.proofs.Masks.{mask-made, masked}
 use Rattle.rows.specs.Rows.{slotsMax}
 use Rattle.picture.specs.declared.Link.{Link}
 use Rattle.picture.specs.Picture.{linkAt}
 use Rattle.picture.proofs.Starts.{Few, few, link-halves}
-use Rattle.evidence.specs.Layout.{nodeWidths}
+use Rattle.evidence.specs.Layout.{nodeWidths, nodeBytes}
 use Rattle.evidence.specs.Contents.{nodeAt}
+use Rattle.evidence.proofs.Places.{node-bytes}
 use Rattle.checker.specs.Forests.{nodeFrom}
+use Rattle.checker.proofs.Nodes.{node-field, node-room}
 use borrow.Author.Needs.{needs}
 use Rattle.checker.proofs.forests.node_at.Statement.{statement}
 use Rattle.checker.proofs.forests.node_at.Tie as tie
 
--- the numbers are small
-small : (c : tie.After-node-bits) → Few (c .before .before .args .h)
-small c = few _ (c .before .before .pre .0)
+-- where the function begins, with small numbers
+abbrev start : tie.After-node-bits → tie.Start
+start c = c .before .before
 
--- a node has twice the bits of a location, and the nodes before it take no more than all of them
-size : (c : tie.After-node-bits) → let w = c .before .before .args .h .edition .«location_bits» in c .node-bits .result ≡ w + w
-unfolding nodeWidths sum
-size c = omega (arith, c .node-bits .ensures)
+small : (c : tie.After-node-bits) → Few (start c .args .h)
+small c = few _ (start c .pre .0)
 
-before : (c : tie.After-node-bits) → (c .before .before .args .v - 1) * c .node-bits .result ≤ slotsMax * 24
+-- the bytes of a node
+abbrev bytes : tie.After-node-bits → ℕ
+bytes c = c .node-bits .result / 8
+
+size : (c : tie.After-node-bits) → bytes c ≡ nodeBytes (start c .args .h .edition)
+unfolding nodeBytes
+size c = ap (λ (x : ℕ). x / 8) (c .node-bits .ensures)
+
+-- they are two or three
+few-bytes : (c : tie.After-node-bits) → (2 ≤ bytes c) × (bytes c ≤ 3)
+few-bytes c = rw (size c) (node-bytes (start c .pre .0 .known))
+
+-- the nodes before it take no more than all of them, and there is room for it behind them
+before : (c : tie.After-node-bits) → (start c .args .v - 1) * bytes c ≤ slotsMax * 3
 before c =
-    let nodes : c .before .before .args .v - 1 ≤ slotsMax = omega (arith, c .before .before .pre .2, small c .slots) in
-    let most : c .node-bits .result ≤ 24 = omega (arith, size c, small c .bits) in
-    mul-le-mul nodes most
+    let nodes : start c .args .v - 1 ≤ slotsMax = omega (arith, start c .pre .2, small c .slots) in
+    mul-le-mul nodes (few-bytes c .1)
+
+room : (c : tie.After-node-bits) → let a = start c .args in a .at + (a .v - 1) * bytes c + bytes c ≤ length (a .ev .now)
+room c = let p = start c .pre in rw (size c) (node-room (p .3) (p .1) (p .2))
 
 node-bits-requires : tie.Need-node-bits-requires
 node-bits-requires c κs = c .before .pre .0 .known
 
-sub-field : tie.Need-sub-field
-sub-field c = search needs
+sub-bytes : tie.Need-sub-bytes
+sub-bytes c = search needs
 
-mul-field : tie.Need-mul-field
-mul-field c = omega (arith, before c)
+mul-bytes : tie.Need-mul-bytes
+mul-bytes c = omega (arith, before c)
 
-add-field : tie.Need-add-field
-add-field c = omega (arith, before c, c .before .before .pre .3)
+add-bytes : tie.Need-add-bytes
+add-bytes c = omega (arith, before c, start c .pre .3 .small)
 
-field-requires : tie.Need-field-requires
-field-requires c κs = omega (arith, size c, small c .bits)
+bytes-requires : tie.Need-bytes-requires
+bytes-requires c κs = let f = few-bytes c in (room c, f .0, f .1)
 
 shr-t8 : tie.Need-shr-t8
 shr-t8 c = omega (arith, small (c .before) .bits)
@@ -60,11 +74,11 @@ returns : tie.Need-returns
 unfolding nodeFrom nodeAt nodeWidths linkAt
 returns c =
     let b = c .before in
-    let a = b .before .before .args in
+    let a = start b .args in
     let w = a .h .edition .«location_bits» in
-    let both = c .field .ensures ∙ ap₂ (λ (x y : ℕ). fieldAt (a .ev .now) (a .q + (a .v - 1) * x) y) (b .node-bits .ensures) (size b) in
+    let both = rw (size b) at (c .bytes .ensures) ∙ node-field (start b .pre .0 .known) (a .ev .now) (a .at) (a .v) in
     let e = link-halves (a .ev .now) w w _ both in
-    let d = masked (c .field .result) w (omega (arith, small b .bits)) ∙ ap (λ (l : Link). l .to) e in
+    let d = masked (c .bytes .result) w (omega (arith, small b .bits)) ∙ ap (λ (l : Link). l .to) e in
     λ j. record { parent = e j .from; depth = d j }
 
 pub node-at-spec : {M : Type 1} → statement M
@@ -72,10 +86,10 @@ node-at-spec =
     tie.close
     (tie.spec
     node-bits-requires
-    sub-field
-    mul-field
-    add-field
-    field-requires
+    sub-bytes
+    mul-bytes
+    add-bytes
+    bytes-requires
     shr-t8
     shl-t10
     sub-t9

@@ -2,7 +2,7 @@
 use mathlib.Core.Path.{_≡_, sym, _∙_}
 use mathlib.Core.Bool.{true}
 use mathlib.Core.List.{List}
-use Prim.Native.Nat.{_≤_}
+use Prim.Native.Nat.{_*_, _≤_}
 use native.Mathlib.Omega.{arith}
 use borrow.Author.Tests.{not-true, not-false, eq-eqb, ne-eqb}
 use Rattle.rows.specs.Rows.{linkedIn, slotsMax}
@@ -20,7 +20,7 @@ use Rattle.checker.proofs.forests.node_right.Tie as tie
 
 -- the forest, and its node that was handed in
 abbrev forest : tie.Start → List Node
-forest c = forestIn (c .args .h .edition) (c .args .h .slots) (c .args .ev .now) (c .args .q)
+forest c = forestIn (c .args .h .edition) (c .args .h .slots) (c .args .ev .now) (c .args .at * 8)
 
 handed : (c : tie.Start) → nodeOf (forest c) (c .args .v) ≡ c .args .x
 handed c = node-read _ _ _ _ _ (c .pre .0 .1) (c .pre .0 .2) ∙ sym (c .pre .1)
@@ -98,7 +98,7 @@ returns-6 c =
 add-result : tie.Need-add-result
 add-result c =
     let s = start (held (c .before .before .before)) in
-    rw (c .before .node-at .ensures) (let d = depth-small (s .pre .0 .3 .known) (s .args .ev .now) (s .args .q) (s .args .x .parent) in omega arith)
+    rw (c .before .node-at .ensures) (let d = depth-small (s .pre .0 .3 .known) (s .args .ev .now) (s .args .at * 8) (s .args .x .parent) in omega arith)
 
 returns-7 : tie.Need-returns-7
 returns-7 c =

@@ -2,7 +2,7 @@
 use mathlib.Core.Path.{_≡_, refl, sym, ap, _∙_, subst}
 use mathlib.Core.Logic.{inl, inr, ⊎-elim}
 use mathlib.Core.List.{List}
-use Prim.Native.Nat.{ℕ, suc, _+_, _-_, _≤_}
+use Prim.Native.Nat.{ℕ, suc, _+_, _-_, _*_, _/_, _≤_}
 use native.Mathlib.Omega.{arith}
 use borrow.Author.Tests.{not-true, not-false}
 use lib.Dec.{T}
@@ -25,11 +25,11 @@ use Rattle.checker.proofs.forests.parts_fault.Statement.{statement}
 use Rattle.checker.proofs.forests.parts_fault.Tie as tie
 
 -- the slots below v are followed, without a fault
-record Slots (x : Given) (row : List ℕ) (k q : ℕ) (evicted : Range) (fault : ℕ) (slots : List ℕ) (v : ℕ) : Type 0 where
+record Slots (x : Given) (row : List ℕ) (k at : ℕ) (evicted : Range) (fault : ℕ) (slots : List ℕ) (v : ℕ) : Type 0 where
   pub some : 1 ≤ v
   pub none : fault ≡ 0
-  pub part : PartAt x row k q evicted
-  pub followed : Followed (x .links) (heldIn (x .held)) (forest x q) slots v
+  pub part : PartAt x row k at evicted
+  pub followed : Followed (x .links) (heldIn (x .held)) (forest x (at * 8)) slots v
 
 -- the links of the locations below a are looked at, without a fault
 record Links (x : Given) (row : List ℕ) (k : ℕ) (evicted : Range) (inner outer : List ℕ) (fault a : ℕ) : Type 0 where
@@ -44,18 +44,18 @@ record Parts (x : Given) (cuts row : List ℕ) (fault k : ℕ) : Type 0 where
   pub counted : Counted x cuts k
 
 abbrev Inv-loop : tie.InvT-loop
-Inv-loop s h ev count cuts held n d words links services weights protected none now fault₀ k q evicted slots₀ v₀ fault slots v =
-    Slots (given s ev held h count words links services weights protected) now k q evicted fault slots v
+Inv-loop s h ev count cuts held n d words links services weights protected none now fault₀ k at evicted slots₀ v₀ fault slots v =
+    Slots (given s ev held h count words links services weights protected) now k at evicted fault slots v
 
 abbrev μ-loop : tie.MeasureT-loop
-μ-loop s h ev count cuts held n d words links services weights protected none now fault₀ k q evicted slots₀ v₀ fault slots v = n + 1 - v
+μ-loop s h ev count cuts held n d words links services weights protected none now fault₀ k at evicted slots₀ v₀ fault slots v = n + 1 - v
 
 abbrev Inv-loop2 : tie.InvT-loop2
-Inv-loop2 s h ev count cuts held n d words links services weights protected none now fault₀ k q evicted v inside outer a₀ fault a =
+Inv-loop2 s h ev count cuts held n d words links services weights protected none now fault₀ k at evicted v inside outer a₀ fault a =
     Links (given s ev held h count words links services weights protected) now k evicted inside outer fault a
 
 abbrev μ-loop2 : tie.MeasureT-loop2
-μ-loop2 s h ev count cuts held n d words links services weights protected none now fault₀ k q evicted v inside outer a₀ fault a = n + 1 - a
+μ-loop2 s h ev count cuts held n d words links services weights protected none now fault₀ k at evicted v inside outer a₀ fault a = n + 1 - a
 
 abbrev Inv-check : tie.InvT-check
 Inv-check s h ev count cuts₀ held n d words links services weights protected none now₀ fault₀ k₀ cuts now fault k =
@@ -119,18 +119,18 @@ evicted-in-requires c κs =
 loop-holds : tie.Need-loop-holds Inv-loop μ-loop Inv-loop2 μ-loop2 Inv-check μ-check
 loop-holds c =
     let i = c .before .before .before .check .inv in
-    let part = part-begun (i .gone) (c .before .before .check-test .taken) (c .before .forest-at .ensures) (c .evicted-in .ensures) in
+    let part = part-begun (i .gone) (c .before .before .check-test .taken) (ap (λ (q : ℕ). q / 8) (c .before .forest-at .ensures)) (c .evicted-in .ensures) in
     record { some = omega arith; none = i .none; part = part; followed = followed-begun rowWords }
 
 node-at-requires : tie.Need-node-at-requires Inv-loop μ-loop Inv-loop2 μ-loop2 Inv-check μ-check
-node-at-requires c κs = let i = c .before .loop .inv in (table-limited (i .part .gone .tables), i .some, c .loop-test .taken, i .part .small)
+node-at-requires c κs = let i = c .before .loop .inv in (table-limited (i .part .gone .tables), i .some, c .loop-test .taken, i .part .room)
 
 node-right-requires : tie.Need-node-right-requires Inv-loop μ-loop Inv-loop2 μ-loop2 Inv-check μ-check
 node-right-requires c κs =
     let k = c .before .before in
     let i = k .before .before .loop .inv in
     let t = i .part .gone .tables in
-    ((t .link-rows .many, i .some, k .before .loop-test .taken, table-limited t, i .part .small), k .node-at .ensures)
+    ((t .link-rows .many, i .some, k .before .loop-test .taken, table-limited t, i .part .room), k .node-at .ensures)
 
 add-requires : tie.Need-add-requires Inv-loop μ-loop Inv-loop2 μ-loop2 Inv-check μ-check
 add-requires c κs = search needs
@@ -182,7 +182,7 @@ loop2-holds c =
       none = i .none;
       inside =
           record {
-            q = _;
+            at = _;
             slots = _;
             part = i .part;
             with = m .before .add2 .ensures;
