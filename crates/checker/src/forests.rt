@@ -116,7 +116,7 @@ fn leads_out(row: &[u64; WORDS], outside: &[u64; WORDS], words: usize, evicted: 
     requires { ⌜ (length (now outside) ≡ rowWords) × Narrow words (now outside) ⌝ }
     ensures { λ r. ⌜ Meet (marked (now (row .entry))) (without evicted (marked (now (outside .entry)))) r ⌝ }
 {
-    if rows::meet(row, outside, 0, words) {
+    if rows::meet(row, outside, words) {
         return meet_unevicted(row, outside, words, evicted);
     }
     false

@@ -2,7 +2,7 @@
 use mathlib.Core.Bool.{Bool, xor}
 use mathlib.Core.List.{List}
 use mathlib.Core.Logic.{by-cases}
-use mathlib.Core.Path.{_≡_, refl, sym, _∙_, subst}
+use mathlib.Core.Path.{_≡_, sym, _∙_, subst}
 use Prim.Native.Nat.{ℕ, _+_, _*_, _/_, _%_, _≤_, _<_}
 use native.Mathlib.Omega.{arith}
 use native.Mathlib.Decide.{ℕ-discrete}
@@ -32,15 +32,8 @@ module _ {r : Range} (word fresh : ℕ) {base : ℕ} where
   new-locations o l = record { within = λ v t. l .within v (common-words word fresh base v (without-both r _ v (subst T (o .marks v) t) .0) .1) }
 
   -- there is nothing: the word is passed over
-  pub word-passed : {u d : ℕ} {parent depth : List ℕ} → Whole parent depth → bitAnd word fresh ≡ 0 → WordSwept r word fresh base u d parent depth parent depth fresh
-  word-passed whole z =
-      let none : (v : ℕ) → ¬ T (inWord 0 base v) = none-in-zero 0 base refl in
-      record {
-        new = 0;
-        found = record { marks = λ v. is-false _ (none v) ∙ sym (is-false _ (λ t. none-in-zero (bitAnd word fresh) base z v (without-both r _ v t .0))) };
-        entered = entered-none whole none;
-        same = sym (xor-zero-r fresh);
-      }
+  pub word-passed : {new u d : ℕ} {parent depth : List ℕ} → Whole parent depth → LeftOut r (bitAnd word fresh) base new → new ≡ 0 → WordSwept r word fresh base u d parent depth parent depth fresh
+  word-passed {new} whole o z = record { new = new; found = o; entered = entered-none whole (none-in-zero new base z); same = rw z (sym (xor-zero-r fresh)) }
 
 -- ---- one word of a row
 
@@ -98,46 +91,34 @@ module _ (r : Range) (row fresh : List ℕ) (i : ℕ) {u d left : ℕ} {parent d
           ready =
               record {
                 long = simp length-set (ready .long);
-                narrow = record { most = ready .narrow .most; start = λ v t. omega arith; within = λ v t. ready .narrow .within v (sweep-fresh (slots v) t) };
+                narrow = record { most = ready .narrow .most; within = λ v t. ready .narrow .within v (sweep-fresh (slots v) t) };
                 locations = record { within = λ v t. ready .locations .within v (sweep-fresh (slots v) t) };
                 whole = w .entered .whole;
               };
           slot = slots;
         }
 
--- ---- the loops over the words
+-- ---- the loop over the words
 
-module _ (r : Range) (row : List ℕ) (words u d : ℕ) where
-  -- the marks of the words below i are swept
-  abbrev Passed : ℕ → List ℕ → List ℕ → List ℕ → List ℕ → List ℕ → List ℕ → Type 0
-  Passed i = Swept words (eqb u) (avoiding r (λ _. done (marked row) (fromWord i (marked row)))) d
+-- the row's marks in the words below i are swept
+pub record Sweeping (r : Range) (row : List ℕ) (words u d i : ℕ) (fresh₀ parent₀ depth₀ fresh parent depth : List ℕ) : Type 0 where
+  pub swept : Swept words (eqb u) (avoiding r (λ _. done (marked row) (fromWord i (marked row)))) d fresh₀ parent₀ depth₀ fresh parent depth
 
-  -- a loop goes on from the words below k to those below i, whatever was swept before it
-  pub record Sweeping (k i : ℕ) (fresh₀ parent₀ depth₀ fresh parent depth : List ℕ) : Type 0 where
-    pub ready : Ready words fresh parent depth
-    pub swept : {f p e : List ℕ} → Passed k f p e fresh₀ parent₀ depth₀ → Passed i f p e fresh parent depth
+module _ {r : Range} {row : List ℕ} {words u d : ℕ} {fresh₀ parent₀ depth₀ : List ℕ} where
+  pub begun : Ready words fresh₀ parent₀ depth₀ → Sweeping r row words u d 0 fresh₀ parent₀ depth₀ fresh₀ parent₀ depth₀
+  begun ready = record { swept = swept-none _ _ ready (λ v w f. done-none _ _ (from-first (marked row)) v (without-both r _ v (f .link) .0)) }
 
-module _ {r : Range} {row : List ℕ} {words u d k : ℕ} {fresh₀ parent₀ depth₀ : List ℕ} where
-  pub begun : Ready words fresh₀ parent₀ depth₀ → Sweeping r row words u d k k fresh₀ parent₀ depth₀ fresh₀ parent₀ depth₀
-  begun ready = record { ready = ready; swept = λ s. s }
-
-  module _ {i : ℕ} {fresh parent depth : List ℕ} (s : Sweeping r row words u d k i fresh₀ parent₀ depth₀ fresh parent depth) where
+  module _ {i : ℕ} {fresh parent depth : List ℕ} (s : Sweeping r row words u d i fresh₀ parent₀ depth₀ fresh parent depth) where
     pub next : {left : ℕ} {parent′ depth′ : List ℕ} → i < rowWords → WordSwept r (getD row i 0) (getD fresh i 0) (i * 64) u d parent depth parent′ depth′ left
-        → Sweeping r row words u d k (i + 1) fresh₀ parent₀ depth₀ (set fresh i left) parent′ depth′
+        → Sweeping r row words u d (i + 1) fresh₀ parent₀ depth₀ (set fresh i left) parent′ depth′
     next l w =
-        let a = word-swept r row fresh i w (s .ready) (omega (arith, s .ready .long)) in
-        record { ready = a .ready; swept = λ b. swept-then (row-joined (from-part i (marked row)) (row-picked row i) r u) (s .swept b) a }
+        let before = s .swept .ready in
+        record { swept = swept-then (row-joined (from-part i (marked row)) (row-picked row i) r u) (s .swept) (word-swept r row fresh i w before (omega (arith, before .long))) }
 
-    -- one loop after another
-    pub then : {j : ℕ} {fresh′ parent′ depth′ : List ℕ} → Sweeping r row words u d i j fresh parent depth fresh′ parent′ depth′
-        → Sweeping r row words u d k j fresh₀ parent₀ depth₀ fresh′ parent′ depth′
-    then t = record { ready = t .ready; swept = λ b. t .swept (s .swept b) }
-
--- a slot that was fresh is in one of the words, so that the row's marks in others find none
-pub ended : {r : Range} {row : List ℕ} {words u d i : ℕ} {fresh₀ parent₀ depth₀ fresh parent depth : List ℕ} → Ready words fresh₀ parent₀ depth₀
-    → Sweeping r row words u d 0 i fresh₀ parent₀ depth₀ fresh parent depth → words ≤ i → Swept words (eqb u) (avoiding r (λ _. marked row)) d fresh₀ parent₀ depth₀ fresh parent depth
-ended {r = r} {row = row} {i = i} ready s l =
-    swept-as
-    (λ v t w f. record { there = f .there; link = without-as r _ _ v (λ m. done-split _ _ v m .0) (f .link) })
-    (λ v t w f. record { there = f .there; link = without-as r _ _ v (λ m. split-done _ _ v m (λ o. narrow-past (ready .narrow) l v (from-word i (marked row) v o .0) t)) (f .link) })
-    (s .swept (swept-none _ _ ready (λ v w f. done-none _ _ (from-first (marked row)) v (without-both r _ v (f .link) .0))))
+    -- a slot that was fresh is in one of the first words, so that the row's marks in others find none
+    pub ended : Ready words fresh₀ parent₀ depth₀ → words ≤ i → Swept words (eqb u) (avoiding r (λ _. marked row)) d fresh₀ parent₀ depth₀ fresh parent depth
+    ended ready l =
+        swept-as
+        (λ v t w f. record { there = f .there; link = without-as r _ _ v (λ m. done-split _ _ v m .0) (f .link) })
+        (λ v t w f. record { there = f .there; link = without-as r _ _ v (λ m. split-done _ _ v m (λ o. narrow-past (ready .narrow) l v (from-word i (marked row) v o .0) t)) (f .link) })
+        (s .swept)

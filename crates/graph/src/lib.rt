@@ -6,7 +6,6 @@ ghost use Rattle.rows.specs.Ranges.{noRange, without, avoiding};
 ghost use Rattle.graph.specs.Held.{heldIn, SlotsOnly};
 ghost use Rattle.graph.specs.Steps.{Walked};
 ghost use Rattle.graph.specs.Sweeps.{Locations, Whole, Ready, Entered, WordSwept, Swept};
-use rows::FEW_WORDS;
 use rows::LOCATIONS;
 use rows::Range;
 use rows::SLOTS;
@@ -53,8 +52,7 @@ fn enter(
 }
 
 // One word of a row, whose first place is location base: the fresh slots that it marks get the parent u and the depth d, and those that are
-// left are fresh still. Those of the range stay as they are. Most words have nothing to look for, and the range is looked at in the others
-// alone.
+// left are fresh still. Those of the range stay as they are.
 fn sweep_at(
     word: u64,
     fresh: u64,
@@ -68,11 +66,10 @@ fn sweep_at(
     requires { ⌜ Locations (inWord fresh base) × Whole (now parent) (now depth) × (base < marksMax) ⌝ }
     ensures { λ r. ⌜ WordSwept block word fresh base u d (now (parent .entry)) (now (depth .entry)) (now (parent .exit)) (now (depth .exit)) r ⌝ }
 {
-    let marked = word & fresh;
-    if marked == 0 {
+    let found = rows::leave_out(word & fresh, base, block);
+    if found == 0 {
         return fresh;
     }
-    let found = rows::leave_out(marked, base, block);
     enter(parent, depth, found, base, u, d);
     fresh ^ found
 }
@@ -95,15 +92,12 @@ fn sweep(
         (now (fresh .exit)) (now (parent .exit)) (now (depth .exit)) ⌝ }
 {
     let mut k: usize = 0;
-    while k < FEW_WORDS {
+    while k < WORDS {
+        if rows::is_end(k, words) {
+            break;
+        }
         fresh[k] = sweep_at(row[k], fresh[k], k * 64, block, parent, depth, u, d);
         k += 1;
-    }
-    if FEW_WORDS < words {
-        while k < WORDS {
-            fresh[k] = sweep_at(row[k], fresh[k], k * 64, block, parent, depth, u, d);
-            k += 1;
-        }
     }
 }
 
@@ -154,11 +148,7 @@ fn level(
         (now (fresh .exit)) (now (parent .exit)) (now (depth .exit)) ⌝ }
 {
     let mut i: usize = 0;
-    while i < WORDS {
-        // So that the compiler knows how many there are at most.
-        if i == words {
-            break;
-        }
+    while i < words {
         let word = frontier[i];
         sweep_word(links, word, i * 64, words, block, fresh, parent, depth, d);
         i += 1;

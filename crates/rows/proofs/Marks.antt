@@ -7,15 +7,15 @@ use Prim.Native.Nat.{ℕ, _+_, _-_, _*_, _/_, _%_, _^_, _≤_, _<_}
 use native.Mathlib.Omega.{arith}
 use native.Mathlib.Decide.{decLt, ℕ-discrete}
 use native.Mathlib.Nat.{lt-of-le-of-lt}
-use lib.Bits.{bitAnd, bitOr, bitXor, and-le-l}
+use lib.Bits.{bitAnd, bitOr, bitXor, and-le-l, and-le-r, or-add-and}
 use borrow.Author.Count.{below-more}
 use lib.Count.{trailingZeros}
 use borrow.Author.Tests.{eq-eqb, ne-eqb, le-leb, lt-ltb}
-use lib.Dec.{T, leb, eqb, leb→le, le→leb, eqb→eq}
+use lib.Dec.{T, leb, eqb, leb→le, le→leb, eqb→eq, T-not}
 use lib.ListN.{length, getD, set, replicate, length-set, length-replicate}
 use lib.Seq.{getD-set-same, getD-set-other}
-use Rattle.rows.specs.Rows.{bit, marked, linkedIn, wordsFor, Between, Narrow, With, Linked, Differ, Minus, Meet, slotsMax, rowWords, inWord}
-use Rattle.lists.proofs.Tests.{and-T, T-and, eq-T, is-false}
+use Rattle.rows.specs.Rows.{bit, marked, linkedIn, wordsFor, Narrow, With, Linked, Differ, Minus, Meet, slotsMax, rowWords, inWord}
+use Rattle.lists.proofs.Tests.{and-T, T-and, eq-T, is-false, not-not-T}
 use Rattle.lists.proofs.Picks.{zeros-at}
 use Rattle.rows.proofs.Digits.{bit-none, digit-and, digit-or, digit-xor, digit-shifted}
 use Rattle.rows.proofs.InWords.{in-word, word-in, both-words, common-words, none-in-zero, word-begun, word-here}
@@ -72,10 +72,6 @@ module _ (i : ℕ) (marks : ℕ → Bool) (v : ℕ) where
 word-none : (row : List ℕ) (v : ℕ) → getD row (v / 64) 0 ≡ 0 → ¬ T (marked row v)
 word-none row v z t = omega (arith, bit-none (v % 64), rw z at (mark-digit row v t))
 
--- so one that is marked is in another word
-mark-elsewhere : (row : List ℕ) (i v : ℕ) → getD row i 0 ≡ 0 → T (marked row v) → v / 64 ≡ i → ⊥
-mark-elsewhere row i v z t e = word-none row v (rw e z) t
-
 -- from the first word on all marks are left
 pub from-first : (marks : ℕ → Bool) (v : ℕ) → T (marks v) → T (fromWord 0 marks v)
 from-first marks v t = word-from 0 marks v (omega arith) t
@@ -119,42 +115,24 @@ module _ (row : List ℕ) (i w : ℕ) where
   unfolding marked
   mark-other v ne = rw (getD-set-other row i (v / 64) w 0 ne)
 
--- ---- rows with marks in some of their words alone
+-- ---- rows with marks in their first words alone
 
 -- marks of the locations 0 to n are in the words that these take
 pub narrow-for : (n : ℕ) (row : List ℕ) → n ≤ slotsMax → ((v : ℕ) → T (marked row v) → v ≤ n) → Narrow (wordsFor n) row
 unfolding wordsFor
-narrow-for n row most within = record { most = omega arith; start = λ v t. omega arith; within = λ v t. omega (arith, within v t) }
+narrow-for n row most within = record { most = omega arith; within = λ v t. omega (arith, within v t) }
 
-module _ {from to : ℕ} {row : List ℕ} (between : Between from to row) where
-  module _ {i : ℕ} (passed : to ≤ i) where
-    -- no location from word i on is marked
-    pub narrow-past : (v : ℕ) → i ≤ v / 64 → ¬ T (marked row v)
-    narrow-past v l t = omega (arith, between .within v t)
+module _ {words : ℕ} {row : List ℕ} (narrow : Narrow words row) {i : ℕ} (passed : words ≤ i) where
+  -- no location from word i on is marked
+  pub narrow-past : (v : ℕ) → i ≤ v / 64 → ¬ T (marked row v)
+  narrow-past v l t = omega (arith, narrow .within v t)
 
-    pub narrow-from : (v : ℕ) → ¬ T (fromWord i (marked row) v)
-    narrow-from v t = let s = from-word i (marked row) v t in narrow-past v (s .0) (s .1)
+  pub narrow-from : (v : ℕ) → ¬ T (fromWord i (marked row) v)
+  narrow-from v t = let s = from-word i (marked row) v t in narrow-past v (s .0) (s .1)
 
-  -- none is where no word is left
-  pub none-between : to ≤ from → (v : ℕ) → ¬ T (marked row v)
-  none-between l v t = omega (arith, between .start v t, between .within v t)
-
-  -- a word that is 0 need not be looked at: the first of them, or the last
-  pub without-first : getD row from 0 ≡ 0 → Between (from + 1) to row
-  without-first z =
-      record {
-        most = between .most;
-        start = λ v t. omega (arith, mark-elsewhere row from v z t, between .start v t);
-        within = between .within;
-      }
-
-  pub without-last : getD row (to - 1) 0 ≡ 0 → Between from (to - 1) row
-  without-last z =
-      record {
-        most = omega (arith, between .most);
-        start = between .start;
-        within = λ v t. omega (arith, mark-elsewhere row (to - 1) v z t, between .within v t);
-      }
+  -- none is where the words before it are 0
+  pub narrow-none : ((j : ℕ) → j < i → getD row j 0 ≡ 0) → (v : ℕ) → ¬ T (marked row v)
+  narrow-none zeros v t = by-cases (decLt (v / 64) i) (λ l. word-none row v (zeros (v / 64) l) t) (λ nl. narrow-past v (omega arith) t)
 
 -- ---- rows that are made word by word, by an operator that works digit by digit
 
@@ -231,14 +209,11 @@ pub clear : (n v : ℕ) → ¬ T (marked (replicate n 0) v)
 clear n v = word-none (replicate n 0) v (zeros-at n (v / 64))
 
 -- a row that marks less than another does so in the same words, and so does one that marks nothing
-pub less-narrow : {from to : ℕ} {row less left : List ℕ} → Between from to row → Minus row less left → Between from to left
-less-narrow {row = row} {less = less} {left = left} b m = record { most = b .most; start = λ v t. b .start v (more v t); within = λ v t. b .within v (more v t) }
-  where
-    more : (v : ℕ) → T (marked left v) → T (marked row v)
-    more v t = and-T (marked row v) (not (marked less v)) (subst T (m .marks v) t) .0
+pub less-narrow : {words : ℕ} {row less left : List ℕ} → Narrow words row → Minus row less left → Narrow words left
+less-narrow {row = row} {less = less} {left = left} n m = record { most = n .most; within = λ v t. n .within v (and-T (marked row v) (not (marked less v)) (subst T (m .marks v) t) .0) }
 
-pub clear-narrow : {from to : ℕ} (n : ℕ) → to ≤ rowWords → Between from to (replicate n 0)
-clear-narrow n h = record { most = h; start = λ v t. absurd (clear n v t); within = λ v t. absurd (clear n v t) }
+pub clear-narrow : {words : ℕ} (n : ℕ) → words ≤ rowWords → Narrow words (replicate n 0)
+clear-narrow n h = record { most = h; within = λ v t. absurd (clear n v t) }
 
 pub clear-row : (n v : ℕ) → marked (replicate n 0) v ≡ false
 clear-row n v = is-false (marked (replicate n 0) v) (clear n v)
@@ -288,42 +263,52 @@ with-origin row l v = with-mark row 0 l v
 
 -- ---- marks in common
 
--- two rows have none in the words below i
-pub record Unmet (one other : List ℕ) (i : ℕ) : Type 0 where
-  pub none : (v : ℕ) → v / 64 < i → T (marked one v) → ¬ T (marked other v)
+-- a bitwise or is 0 only where both its words are
+or-none : (a b : ℕ) → bitOr a b ≡ 0 → (a ≡ 0) × (b ≡ 0)
+or-none a b e = (omega (arith, or-add-and a b, and-le-l a b, and-le-r a b), omega (arith, or-add-and a b, and-le-l a b, and-le-r a b))
+
+-- what word j of two rows has in common
+abbrev common : List ℕ → List ℕ → ℕ → ℕ
+common one other j = bitAnd (getD one j 0) (getD other j 0)
+
+-- of the words of two rows, i are looked at, and `seen` is 0 where they have nothing in common
+pub record Looked (one other : List ℕ) (seen i : ℕ) : Type 0 where
+  pub none : seen ≡ 0 → (j : ℕ) → j < i → common one other j ≡ 0
+  pub some : (seen ≡ 0 → ⊥) → (j : ℕ) × (common one other j ≡ 0 → ⊥)
 
 module _ {one other : List ℕ} where
-  module _ {from to : ℕ} (between : Between from to other) where
-    pub unmet-begun : Unmet one other from
-    unmet-begun = record { none = λ v l a b. omega (arith, between .start v b) }
+  pub looked-begun : Looked one other 0 0
+  looked-begun = record { none = λ _ j l. absurd (omega arith); some = λ n. absurd (n refl) }
 
-    -- the words of the other row that have marks are looked at
-    pub unmet-ended : {i : ℕ} → Unmet one other i → to ≤ i → Meet (marked one) (marked other) false
-    unmet-ended {i} u passed =
+  module _ {seen i : ℕ} (l : Looked one other seen i) where
+    pub looked-next : Looked one other (bitOr seen (common one other i)) (i + 1)
+    looked-next =
+        let w : ℕ = common one other i in
         record {
-          common = λ t. absurd t;
-          apart = λ _ v a b. by-cases (decLt (v / 64) i) (λ l. u .none v l a b) (λ nl. narrow-past between passed v (omega arith) b);
+          none = λ z. below-more _ _ (l .none (or-none seen w z .0)) (or-none seen w z .1);
+          some = λ n. by-cases (ℕ-discrete w 0) (λ e. l .some (λ z. n (rw (z, e)))) (λ ne. (i, ne));
         }
 
--- what word i of two rows has in common
-module _ (one other : List ℕ) (i : ℕ) where
-  abbrev common : ℕ
-  common = bitAnd (getD one i 0) (getD other i 0)
+    -- the words of the other row that have marks are looked at, and each word of the first has 64 digits
+    pub looked-ended : ((j : ℕ) → getD one j 0 < 2 ^ 64) → {words : ℕ} → Narrow words other → words ≤ i → Meet (marked one) (marked other) (not (eqb seen 0))
+    looked-ended small narrow passed =
+        record {
+          common = λ t. met (l .some (λ z. T-not (eqb seen 0) t (eq-T seen 0 z)));
+          apart = λ t. unmet (l .none (eqb→eq seen 0 (not-not-T (eqb seen 0) t)));
+        }
+      where
+        met : (j : ℕ) × (common one other j ≡ 0 → ⊥) → (v : ℕ) × T (marked one v) × T (marked other v)
+        met (j, some) =
+            let w : ℕ = common one other j in
+            let v : ℕ = j * 64 + trailingZeros 64 w in
+            let here = word-here (word-begun w (j * 64) (lt-of-le-of-lt (and-le-l (getD one j 0) (getD other j 0)) (small j))) some in
+            let s = common-words (getD one j 0) (getD other j 0) (j * 64) v here in
+            (v, word-marked one j v (s .0) .1, word-marked other j v (s .1) .1)
 
-  pub unmet-next : Unmet one other i → common ≡ 0 → Unmet one other (i + 1)
-  unmet-next u z =
-      record {
-        none =
-            λ v l a b.
+        unmet : ((j : ℕ) → j < i → common one other j ≡ 0) → (v : ℕ) → T (marked one v) → ¬ T (marked other v)
+        unmet none v a b =
+            let j : ℕ = v / 64 in
             by-cases
-            (ℕ-discrete (v / 64) i)
-            (λ e. none-in-zero common (i * 64) z v (both-words (getD one i 0) (getD other i 0) (i * 64) v (marked-word one i v e a) (marked-word other i v e b)))
-            (λ ne. u .none v (omega arith) a b);
-      }
-
-  pub met : getD one i 0 < 2 ^ 64 → (common ≡ 0 → ⊥) → Meet (marked one) (marked other) true
-  met small some =
-      let v : ℕ = i * 64 + trailingZeros 64 common in
-      let here = word-here (word-begun common (i * 64) (lt-of-le-of-lt (and-le-l (getD one i 0) (getD other i 0)) small)) some in
-      let s = common-words (getD one i 0) (getD other i 0) (i * 64) v here in
-      record { common = λ _. (v, word-marked one i v (s .0) .1, word-marked other i v (s .1) .1); apart = λ t. absurd t }
+            (decLt j i)
+            (λ h. none-in-zero (common one other j) (j * 64) (none j h) v (both-words (getD one j 0) (getD other j 0) (j * 64) v (marked-word one j v refl a) (marked-word other j v refl b)))
+            (λ nh. narrow-past narrow passed v (omega arith) b)

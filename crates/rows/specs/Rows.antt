@@ -42,15 +42,10 @@ linkedIn rows a b = marked (getD rows a []) b
 unfoldable pub inWord : ℕ → ℕ → ℕ → Bool
 inWord word base v = leb base v && (ltb v (base + 64) && eqb (bit word (v - base)) 1)
 
--- a row marks nothing but in its words from one up to another, so that no more than these need be looked at
-pub record Between (from to : ℕ) (row : List ℕ) : Type 0 where
-  pub most : to ≤ rowWords
-  pub start : (v : ℕ) → T (marked row v) → from * 64 ≤ v
-  pub within : (v : ℕ) → T (marked row v) → v < to * 64
-
--- nothing but in its first words
-abbrev pub Narrow : ℕ → List ℕ → Type 0
-Narrow words = Between 0 words
+-- a row marks nothing but in its first words, so that no more than these need be looked at
+pub record Narrow (words : ℕ) (row : List ℕ) : Type 0 where
+  pub most : words ≤ rowWords
+  pub within : (v : ℕ) → T (marked row v) → v < words * 64
 
 -- ---- what the functions on rows do, at each location
 

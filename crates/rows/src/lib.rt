@@ -1,10 +1,11 @@
 // Rows of marks, 64 to a word: sets of locations; and ranges of locations by their numbers.
+ghost use mathlib.Core.Bool.{Bool};
 ghost use mathlib.Core.Path.{_≡_};
-ghost use Prim.Native.Nat.{ℕ, _+_, _-_, _^_, _<_};
+ghost use Prim.Native.Nat.{ℕ, _+_, _-_, _^_, _≤_, _<_};
 ghost use lib.ListN.{length, getD};
 ghost use Rattle.lists.specs.Lists.{range, any};
 ghost use Rattle.rows.specs.Ranges.{noRange, UpTo, LeftOut};
-ghost use Rattle.rows.specs.Rows.{marked, wordsFor, Between, Narrow, With, Linked, Differ, Minus, NoneMarked, Meet, marksMax, rowWords};
+ghost use Rattle.rows.specs.Rows.{marked, wordsFor, Narrow, With, Linked, Differ, Minus, NoneMarked, Meet, marksMax, rowWords};
 
 // The slots that rows have a place for.
 pub const SLOTS: usize = 320;
@@ -12,8 +13,8 @@ pub const SLOTS: usize = 320;
 pub const LOCATIONS: usize = SLOTS + 1;
 // The words of a row, with 64 marks each.
 pub const WORDS: usize = 6;
-// Most rows need no more than these. A loop over them has a known end, and is compiled without a test for each word.
-pub const FEW_WORDS: usize = 4;
+// Most rows need no more than these.
+const FEW_WORDS: usize = 4;
 
 // Locations by their numbers: those above the first number, up to the second (01: the slots of a block).
 pub struct Range {
@@ -26,6 +27,17 @@ pub fn words_for(n: usize) -> usize
     ensures { λ r. ⌜ r ≡ wordsFor n ⌝ }
 {
     n / 64 + 1
+}
+
+// Whether a loop over the words of rows can end at word i, because none from there on can have marks. It looks at one place alone: the loop
+// then ends there or behind the last word, and is compiled without a test for each word.
+pub fn is_end(i: usize, words: usize) -> bool
+    ensures { λ r. ⌜ (r ≡ Bool.true → words ≤ i) ⌝ }
+{
+    if i != FEW_WORDS {
+        return false;
+    }
+    words <= FEW_WORDS
 }
 
 // Whether v is marked.
@@ -67,15 +79,12 @@ pub fn differ(before: [u64; WORDS], after: [u64; WORDS], words: usize) -> [u64; 
 {
     let mut row = [0u64; WORDS];
     let mut i: usize = 0;
-    while i < FEW_WORDS {
+    while i < WORDS {
+        if is_end(i, words) {
+            break;
+        }
         row[i] = before[i] ^ after[i];
         i += 1;
-    }
-    if FEW_WORDS < words {
-        while i < WORDS {
-            row[i] = before[i] ^ after[i];
-            i += 1;
-        }
     }
     row
 }
@@ -87,15 +96,12 @@ pub fn minus(row: [u64; WORDS], less: [u64; WORDS], words: usize) -> [u64; WORDS
 {
     let mut left = [0u64; WORDS];
     let mut i: usize = 0;
-    while i < FEW_WORDS {
+    while i < WORDS {
+        if is_end(i, words) {
+            break;
+        }
         left[i] = row[i] ^ (row[i] & less[i]);
         i += 1;
-    }
-    if FEW_WORDS < words {
-        while i < WORDS {
-            left[i] = row[i] ^ (row[i] & less[i]);
-            i += 1;
-        }
     }
     left
 }
@@ -107,8 +113,7 @@ pub fn none_marked(row: [u64; WORDS], words: usize) -> bool
 {
     let mut i: usize = 0;
     while i < WORDS {
-        // So that the compiler knows how many there are at most.
-        if i == words {
+        if is_end(i, words) {
             break;
         }
         if row[i] != 0 {
@@ -119,50 +124,23 @@ pub fn none_marked(row: [u64; WORDS], words: usize) -> bool
     true
 }
 
-// The first of the words that has a mark, or where they end.
-pub fn first_word(row: &[u64; WORDS], to: usize) -> usize
-    requires { ⌜ Narrow to (now row) ⌝ }
-    ensures { λ r. ⌜ Between r to (now (row .entry)) ⌝ }
-{
-    let mut i: usize = 0;
-    while i < to {
-        if row[i] != 0 {
-            return i;
-        }
-        i += 1;
-    }
-    i
-}
-
-// Where the last of the words ends that has a mark, or where they start.
-pub fn last_word(row: &[u64; WORDS], from: usize, to: usize) -> usize
-    requires { ⌜ Between from to (now row) ⌝ }
-    ensures { λ r. ⌜ Between from r (now (row .entry)) ⌝ }
-{
-    let mut i = to;
-    while from < i {
-        if row[i - 1] != 0 {
-            return i;
-        }
-        i -= 1;
-    }
-    i
-}
-
-// Whether two rows have a mark in common, of which the second has none but in the words from one up to another.
-pub fn meet(row: &[u64; WORDS], other: &[u64; WORDS], from: usize, to: usize) -> bool
-    requires { ⌜ Between from to (now other) ⌝ }
+// Whether two rows have a mark in common, of which the second has none but in its first words. All of these are looked at, since a branch for
+// each costs more.
+pub fn meet(row: &[u64; WORDS], other: &[u64; WORDS], words: usize) -> bool
+    requires { ⌜ Narrow words (now other) ⌝ }
     ensures { λ r. ⌜ Meet (marked (now (row .entry))) (marked (now (other .entry))) r ⌝ }
 {
-    let mut i = from;
-    while i < to {
-        if row[i] & other[i] != 0 {
-            all_words(*row);
-            return true;
+    all_words(*row);
+    let mut common: u64 = 0;
+    let mut i: usize = 0;
+    while i < WORDS {
+        if is_end(i, words) {
+            break;
         }
+        common = common | (row[i] & other[i]);
         i += 1;
     }
-    false
+    common != 0
 }
 
 // The range of no location.

@@ -1,16 +1,14 @@
 -- The sums over the endpoints that rows pick, endpoint by endpoint. Assumes nothing.
-use mathlib.Core.Path.{_≡_, refl, sym, _∙_, subst}
-use mathlib.Core.Bool.{Bool, true, false, not, _&&_, _||_}
+use mathlib.Core.Path.{_≡_, refl, sym, _∙_}
+use mathlib.Core.Bool.{Bool, true, false, not, _&&_, _||_, and-false, and-true}
 use mathlib.Core.List.{List, [], map}
 use Prim.Native.Nat.{ℕ, suc, _+_, _-_, _*_, _≤_}
 use native.Mathlib.Omega.{arith}
 use native.Mathlib.Nat.{add-zero}
-use lib.Dec.{T, not-T}
 use lib.ListN.{getD}
 use Rattle.lists.specs.Lists.{range, on, sum, any}
 use Rattle.lists.proofs.Faults.{on-le}
-use Rattle.lists.proofs.Tests.{and-T, T-and}
-use Rattle.rows.specs.Rows.{marked, Minus, Meet}
+use Rattle.rows.specs.Rows.{marked, Meet}
 use Rattle.picture.specs.Layout.{weightMax}
 use Rattle.weigh.specs.Sums.{Meets, LostRow, LostBetween, sumBetween, markBetween}
 use Rattle.weigh.specs.declared.Lost.{Lost}
@@ -22,22 +20,14 @@ meet-one row other true false a b = let m = a .common tt in absurd (b .apart tt 
 meet-one row other false true a b = let m = b .common tt in absurd (a .apart tt (m .0) (m .1) (m .2))
 meet-one row other false false a b = refl
 
--- `gone` marks what `before` does and `after` does not
-module _ (row before after gone : List ℕ) (m : Minus before after gone) where
-  -- a row that has a mark in common with what is gone has one with what was before
-  pub met-before : Meet (marked row) (marked gone) true → (f : Bool) → Meet (marked row) (marked before) f → true ≡ f
-  met-before k true a = refl
-  met-before k false a =
-      let c = k .common tt in
-      absurd (a .apart tt (c .0) (c .1) (and-T (marked before (c .0)) (not (marked after (c .0))) (subst T (m .marks (c .0)) (c .2)) .0))
+module _ {row before after : List ℕ} where
+  -- an endpoint that is served after is not lost
+  pub met-after : Meet (marked row) (marked after) true → LostRow row before after false
+  met-after m = record { same = λ f g a b. rw (meet-one _ _ g true b m, and-false f) }
 
-  -- and a row that has none there keeps what it has in common with what was before
-  pub met-after : Meet (marked row) (marked gone) false → (f g : Bool) → Meet (marked row) (marked before) f → Meet (marked row) (marked after) g → false ≡ (f && not g)
-  met-after k false g a b = refl
-  met-after k true true a b = refl
-  met-after k true false a b =
-      let c = a .common tt in
-      absurd (k .apart tt (c .0) (c .1) (subst T (sym (m .marks (c .0))) (T-and (marked before (c .0)) (not (marked after (c .0))) (c .2) (not-T (marked after (c .0)) (b .apart tt (c .0) (c .1))))))
+  -- and any other is lost where it was served before
+  pub met-before : Meet (marked row) (marked after) false → {lost : Bool} → Meet (marked row) (marked before) lost → LostRow row before after lost
+  met-before u {lost} m = record { same = λ f g a b. rw (meet-one _ _ g false b u, and-true f) (meet-one _ _ lost f m a) }
 
 -- something is added where an endpoint is lost (`hit`)
 pub added-hit : {hit : Bool} (a v : ℕ) {b : ℕ} → hit ≡ true → b ≡ a + v → b ≡ a + on hit v

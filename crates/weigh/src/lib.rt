@@ -1,11 +1,10 @@
 // Weighing a block: the served weight, the weight that is lost without the block, and whether a protected endpoint is cut.
 ghost use mathlib.Core.Path.{_≡_};
 ghost use mathlib.Core.Bool.{_&&_};
-ghost use mathlib.Core.List.{List};
-ghost use Prim.Native.Nat.{ℕ, suc, _≤_, _<_};
+ghost use Prim.Native.Nat.{suc, _≤_, _<_};
 ghost use lib.ListN.{length};
 ghost use Rattle.lists.specs.Lists.{outcome};
-ghost use Rattle.rows.specs.Rows.{marked, Between, Narrow, Minus, marksMax};
+ghost use Rattle.rows.specs.Rows.{marked, Narrow, marksMax};
 ghost use Rattle.picture.specs.Picture.{pictureOf};
 ghost use Rattle.picture.specs.Inner.{Read};
 ghost use Rattle.picture.specs.Layout.{endpointsMax};
@@ -42,24 +41,16 @@ pub struct Lost {
 // A second word in that loop costs time.
 const SUM_UNIT: u32 = 256;
 
-// Whether an endpoint is lost, which the locations of the row serve: one that is gone served it, and none that is left (`after`) does. Most
-// endpoints are served by nothing that is gone, so the first look is the only one, and it is at the words where something is gone.
-fn is_lost(
-    row: &[u64; WORDS],
-    gone: &[u64; WORDS],
-    from: usize,
-    to: usize,
-    after: &[u64; WORDS],
-    words: usize,
-) -> bool
-    requires { ⌜ Between from to (now gone) × Narrow words (now after) ⌝ }
-    ensures { λ r.
-        ⌜ ((before : List ℕ) → Minus before (now (after .entry)) (now (gone .entry)) → LostRow (now (row .entry)) before (now (after .entry)) r) ⌝ }
+// Whether an endpoint is lost, which the locations of the row serve: none of `after` does, and one of `before` did. Most endpoints are served
+// after as before, so the first look is the only one.
+fn is_lost(row: &[u64; WORDS], before: &[u64; WORDS], after: &[u64; WORDS], words: usize) -> bool
+    requires { ⌜ Narrow words (now before) × Narrow words (now after) ⌝ }
+    ensures { λ r. ⌜ LostRow (now (row .entry)) (now (before .entry)) (now (after .entry)) r ⌝ }
 {
-    if rows::meet(row, gone, from, to) {
-        return !rows::meet(row, after, 0, words);
+    if rows::meet(row, after, words) {
+        return false;
     }
-    false
+    rows::meet(row, before, words)
 }
 
 // Whether an endpoint is lost and protected.
@@ -86,15 +77,12 @@ pub fn lost_between(
     requires { ⌜ Small (now weights) × (length (now services) ≡ suc endpointsMax) × (d ≤ endpointsMax) × Narrow words before × Narrow words after ⌝ }
     ensures { λ r. ⌜ LostBetween (now (services .entry)) (now (weights .entry)) protected d before after r ⌝ }
 {
-    let gone = rows::minus(before, after, words);
-    let from = rows::first_word(&gone, words);
-    let to = rows::last_word(&gone, from, words);
     let mut sum: u32 = 0;
     let mut mark: u8 = 0;
     // Down to the first: so the loop has one count to keep.
     let mut c = d;
     while 0 < c {
-        let lost = is_lost(&services[c], &gone, from, to, &after, words);
+        let lost = is_lost(&services[c], &before, &after, words);
         if lost {
             sum += weights[c] * SUM_UNIT + 1;
         }

@@ -1,8 +1,6 @@
 -- `level` sweeps the rows of a frontier. The invariant: the rows of the words passed are swept. Assumes nothing.
 use Prim.Native.Nat.{_-_}
-use native.Mathlib.Omega.{arith}
 use borrow.Author.Needs.{needs}
-use Rattle.rows.specs.Rows.{rowWords}
 use Rattle.graph.proofs.Frontiers.{RowSweeping, row-locations, row-sweep-begun, row-sweep-next, row-sweep-ended}
 use Rattle.graph.proofs.level.Statement.{statement}
 use Rattle.graph.proofs.level.Tie as tie
@@ -11,7 +9,7 @@ abbrev Inv-loop : tie.InvT-loop
 Inv-loop links words block fresh₀ parent₀ depth₀ d frontier i₀ fresh parent depth i = RowSweeping block links frontier words d i fresh₀ parent₀ depth₀ fresh parent depth
 
 abbrev μ-loop : tie.MeasureT-loop
-μ-loop links words block fresh₀ parent₀ depth₀ d frontier i₀ fresh parent depth i = rowWords - i
+μ-loop links words block fresh₀ parent₀ depth₀ d frontier i₀ fresh parent depth i = words - i
 
 loop-holds : tie.Need-loop-holds Inv-loop μ-loop
 loop-holds c = row-sweep-begun (c .pre .1)
@@ -27,7 +25,7 @@ mul-sweep-word c = search needs
 
 sweep-word-requires : tie.Need-sweep-word-requires Inv-loop μ-loop
 sweep-word-requires c κs =
-    let l = c .before .before .before .before .before in
+    let l = c .before .before .before .before in
     (row-locations (l .before .args .t2) (l .loop .i) (l .before .pre .0 .0), l .loop .inv .swept .ready)
 
 add-i : tie.Need-add-i Inv-loop μ-loop
@@ -37,13 +35,10 @@ loop-less : tie.Need-loop-less Inv-loop μ-loop
 loop-less c = search needs
 
 loop-again : tie.Need-loop-again Inv-loop μ-loop
-loop-again c = row-sweep-next (c .before .before .before .before .before .before .loop .inv) (c .sweep-word .ensures)
+loop-again c = row-sweep-next (c .before .before .before .before .before .loop .inv) (c .sweep-word .ensures)
 
 returns : tie.Need-returns Inv-loop μ-loop
-returns c = let n = c .before .before .pre .0 .1 in row-sweep-ended (c .before .loop .inv) n (omega (arith, n .most))
-
-returns-2 : tie.Need-returns-2 Inv-loop μ-loop
-returns-2 c = row-sweep-ended (c .before .before .loop .inv) (c .before .before .before .pre .0 .1) (omega arith)
+returns c = row-sweep-ended (c .before .loop .inv) (c .before .before .pre .0 .1) (c .loop-test .left)
 
 pub level-spec : {M : Type 1} → statement M
 level-spec =
@@ -59,5 +54,4 @@ level-spec =
     add-i
     loop-less
     loop-again
-    returns
-    returns-2)
+    returns)

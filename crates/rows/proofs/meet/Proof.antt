@@ -1,38 +1,39 @@
--- `meet` looks for a mark that two rows have in common. The invariant: the words passed have none. Assumes nothing.
+-- `meet` looks for a mark that two rows have in common. The invariant: i words are looked at. Assumes nothing.
+use mathlib.Core.Logic.{⊎-elim}
 use Prim.Native.Nat.{_-_}
-use Rattle.rows.proofs.Marks.{Unmet, unmet-begun, unmet-next, unmet-ended, met}
+use native.Mathlib.Omega.{arith}
+use Rattle.rows.specs.Rows.{rowWords}
+use Rattle.rows.proofs.Marks.{Looked, looked-begun, looked-next, looked-ended}
 use borrow.Author.Needs.{needs}
 use Rattle.rows.proofs.meet.Statement.{statement}
 use Rattle.rows.proofs.meet.Tie as tie
 
 abbrev Inv-loop : tie.InvT-loop
-Inv-loop row other from to i₀ i = Unmet row other i
+Inv-loop row other words common₀ i₀ common i = Looked row other common i
 
 abbrev μ-loop : tie.MeasureT-loop
-μ-loop row other from to i₀ i = to - i
-
-loop-holds : tie.Need-loop-holds Inv-loop μ-loop
-loop-holds c = unmet-begun (c .pre)
-
-mul-if1 : tie.Need-mul-if1 Inv-loop μ-loop
-mul-if1 c = search needs
-
-element-copy-out-if1 : tie.Need-element-copy-out-if1 Inv-loop μ-loop
-element-copy-out-if1 c = search needs
-
-mul-if1-2 : tie.Need-mul-if1-2 Inv-loop μ-loop
-mul-if1-2 c = search needs
-
-element-copy-out-if1-2 : tie.Need-element-copy-out-if1-2 Inv-loop μ-loop
-element-copy-out-if1-2 c = search needs
+μ-loop row other words common₀ i₀ common i = rowWords - i
 
 all-words-requires : tie.Need-all-words-requires Inv-loop μ-loop
 all-words-requires c κs = search needs
 
-returns : tie.Need-returns Inv-loop μ-loop
-returns c =
-    let l = c .before .before .before .before .before .before .loop in
-    met _ _ (l .i) (c .all-words .ensures .1 (l .i)) (c .before .before .if1 .taken)
+loop-holds : tie.Need-loop-holds Inv-loop μ-loop
+loop-holds c = looked-begun
+
+is-end-requires : tie.Need-is-end-requires Inv-loop μ-loop
+is-end-requires c κs = search needs
+
+mul-common : tie.Need-mul-common Inv-loop μ-loop
+mul-common c = search needs
+
+element-copy-out-common : tie.Need-element-copy-out-common Inv-loop μ-loop
+element-copy-out-common c = search needs
+
+mul-common-2 : tie.Need-mul-common-2 Inv-loop μ-loop
+mul-common-2 c = search needs
+
+element-copy-out-common-2 : tie.Need-element-copy-out-common-2 Inv-loop μ-loop
+element-copy-out-common-2 c = search needs
 
 add-i : tie.Need-add-i Inv-loop μ-loop
 add-i c = search needs
@@ -41,10 +42,13 @@ loop-less : tie.Need-loop-less Inv-loop μ-loop
 loop-less c = search needs
 
 loop-again : tie.Need-loop-again Inv-loop μ-loop
-loop-again c = unmet-next _ _ _ (c .before .before .before .before .loop .inv) (c .if1 .left)
+loop-again c = looked-next (c .before .before .before .before .before .loop .inv)
 
-returns-2 : tie.Need-returns-2 Inv-loop μ-loop
-returns-2 c = unmet-ended (c .before .before .pre) (c .before .loop .inv) (c .loop-test .left)
+returns : tie.Need-returns Inv-loop μ-loop
+returns c =
+    let w = c .before .before in
+    looked-ended (c .before .loop .inv) (w .all-words .ensures .1) (w .before .before .pre)
+    (⊎-elim (λ x. omega (arith, w .before .before .pre .most)) (λ x. x .1 .ensures (x .2 .taken)) (c .loop-test .came))
 
 pub meet-spec : {M : Type 1} → statement M
 meet-spec =
@@ -52,14 +56,14 @@ meet-spec =
     (tie.spec
     Inv-loop
     μ-loop
-    loop-holds
-    mul-if1
-    element-copy-out-if1
-    mul-if1-2
-    element-copy-out-if1-2
     all-words-requires
-    returns
+    loop-holds
+    is-end-requires
+    mul-common
+    element-copy-out-common
+    mul-common-2
+    element-copy-out-common-2
     add-i
     loop-less
     loop-again
-    returns-2)
+    returns)

@@ -1,4 +1,4 @@
--- `minus` takes one row's marks from another's, word by word. The invariant of both loops: i words are made. Assumes nothing.
+-- `minus` takes one row's marks from another's, word by word. The invariant: i words are made. Assumes nothing.
 use Prim.Native.Nat.{_-_}
 use native.Mathlib.Omega.{arith}
 use Rattle.rows.specs.Rows.{rowWords}
@@ -13,89 +13,50 @@ Inv-loop words row less left₀ i₀ left i = Made lessWord row less left i
 abbrev μ-loop : tie.MeasureT-loop
 μ-loop words row less left₀ i₀ left i = rowWords - i
 
-abbrev Inv-loop2 : tie.InvT-loop2
-Inv-loop2 = Inv-loop
-
-abbrev μ-loop2 : tie.MeasureT-loop2
-μ-loop2 = μ-loop
-
-loop-holds : tie.Need-loop-holds Inv-loop μ-loop Inv-loop2 μ-loop2
+loop-holds : tie.Need-loop-holds Inv-loop μ-loop
 loop-holds c = made-begun lessWord
 
-mul-left : tie.Need-mul-left Inv-loop μ-loop Inv-loop2 μ-loop2
+is-end-requires : tie.Need-is-end-requires Inv-loop μ-loop
+is-end-requires c κs = search needs
+
+mul-left : tie.Need-mul-left Inv-loop μ-loop
 mul-left c = search needs
 
-array-read-left : tie.Need-array-read-left Inv-loop μ-loop Inv-loop2 μ-loop2
+array-read-left : tie.Need-array-read-left Inv-loop μ-loop
 array-read-left c = search needs
 
-mul-left-2 : tie.Need-mul-left-2 Inv-loop μ-loop Inv-loop2 μ-loop2
+mul-left-2 : tie.Need-mul-left-2 Inv-loop μ-loop
 mul-left-2 c = search needs
 
-array-read-left-2 : tie.Need-array-read-left-2 Inv-loop μ-loop Inv-loop2 μ-loop2
+array-read-left-2 : tie.Need-array-read-left-2 Inv-loop μ-loop
 array-read-left-2 c = search needs
 
-mul-left-3 : tie.Need-mul-left-3 Inv-loop μ-loop Inv-loop2 μ-loop2
+mul-left-3 : tie.Need-mul-left-3 Inv-loop μ-loop
 mul-left-3 c = search needs
 
-array-read-left-3 : tie.Need-array-read-left-3 Inv-loop μ-loop Inv-loop2 μ-loop2
+array-read-left-3 : tie.Need-array-read-left-3 Inv-loop μ-loop
 array-read-left-3 c = search needs
 
-mul-left-4 : tie.Need-mul-left-4 Inv-loop μ-loop Inv-loop2 μ-loop2
+mul-left-4 : tie.Need-mul-left-4 Inv-loop μ-loop
 mul-left-4 c = search needs
 
-array-write-left : tie.Need-array-write-left Inv-loop μ-loop Inv-loop2 μ-loop2
+array-write-left : tie.Need-array-write-left Inv-loop μ-loop
 array-write-left c = search needs
 
-add-i : tie.Need-add-i Inv-loop μ-loop Inv-loop2 μ-loop2
+add-i : tie.Need-add-i Inv-loop μ-loop
 add-i c = search needs
 
-loop-less : tie.Need-loop-less Inv-loop μ-loop Inv-loop2 μ-loop2
+loop-less : tie.Need-loop-less Inv-loop μ-loop
 loop-less c = search needs
 
-loop-again : tie.Need-loop-again Inv-loop μ-loop Inv-loop2 μ-loop2
-loop-again c = made-next lessWord (c .before .loop .inv) (omega arith)
+loop-again : tie.Need-loop-again Inv-loop μ-loop
+loop-again c = made-next lessWord (c .before .before .before .loop .inv) (omega arith)
 
-loop2-holds : tie.Need-loop2-holds Inv-loop μ-loop Inv-loop2 μ-loop2
-loop2-holds c = c .before .before .loop .inv
+returns : tie.Need-returns Inv-loop μ-loop
+returns c = minus-ended (c .before .before .pre) (c .before .loop .inv) (omega arith)
 
-mul-left-5 : tie.Need-mul-left-5 Inv-loop μ-loop Inv-loop2 μ-loop2
-mul-left-5 c = search needs
-
-array-read-left-4 : tie.Need-array-read-left-4 Inv-loop μ-loop Inv-loop2 μ-loop2
-array-read-left-4 c = search needs
-
-mul-left-6 : tie.Need-mul-left-6 Inv-loop μ-loop Inv-loop2 μ-loop2
-mul-left-6 c = search needs
-
-array-read-left-5 : tie.Need-array-read-left-5 Inv-loop μ-loop Inv-loop2 μ-loop2
-array-read-left-5 c = search needs
-
-mul-left-7 : tie.Need-mul-left-7 Inv-loop μ-loop Inv-loop2 μ-loop2
-mul-left-7 c = search needs
-
-array-read-left-6 : tie.Need-array-read-left-6 Inv-loop μ-loop Inv-loop2 μ-loop2
-array-read-left-6 c = search needs
-
-mul-left-8 : tie.Need-mul-left-8 Inv-loop μ-loop Inv-loop2 μ-loop2
-mul-left-8 c = search needs
-
-array-write-left-2 : tie.Need-array-write-left-2 Inv-loop μ-loop Inv-loop2 μ-loop2
-array-write-left-2 c = search needs
-
-add-i-2 : tie.Need-add-i-2 Inv-loop μ-loop Inv-loop2 μ-loop2
-add-i-2 c = search needs
-
-loop2-less : tie.Need-loop2-less Inv-loop μ-loop Inv-loop2 μ-loop2
-loop2-less c = search needs
-
-loop2-again : tie.Need-loop2-again Inv-loop μ-loop Inv-loop2 μ-loop2
-loop2-again c = made-next lessWord (c .before .loop2 .inv) (omega arith)
-
-returns : tie.Need-returns Inv-loop μ-loop Inv-loop2 μ-loop2
-returns c = minus-ended (c .before .before .before .before .before .pre) (c .before .loop2 .inv) (omega arith)
-
-returns-2 : tie.Need-returns-2 Inv-loop μ-loop Inv-loop2 μ-loop2
-returns-2 c = minus-ended (c .before .before .before .pre) (c .before .before .loop .inv) (omega arith)
+returns-2 : tie.Need-returns-2 Inv-loop μ-loop
+returns-2 c = minus-ended (c .before .before .before .before .pre) (c .before .before .before .loop .inv) (c .before .is-end .ensures (c .if1 .taken))
 
 pub minus-spec : {M : Type 1} → statement M
 minus-spec =
@@ -103,9 +64,8 @@ minus-spec =
     (tie.spec
     Inv-loop
     μ-loop
-    Inv-loop2
-    μ-loop2
     loop-holds
+    is-end-requires
     mul-left
     array-read-left
     mul-left-2
@@ -117,17 +77,5 @@ minus-spec =
     add-i
     loop-less
     loop-again
-    loop2-holds
-    mul-left-5
-    array-read-left-4
-    mul-left-6
-    array-read-left-5
-    mul-left-7
-    array-read-left-6
-    mul-left-8
-    array-write-left-2
-    add-i-2
-    loop2-less
-    loop2-again
     returns
     returns-2)

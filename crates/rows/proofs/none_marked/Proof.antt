@@ -1,23 +1,32 @@
--- `none_marked` tells whether a row marks anything. The invariant: it marks nothing but in the words that are left. Assumes nothing.
-use Prim.Native.Nat.{_-_}
+-- `none_marked` tells whether a row marks anything. The invariant: the words passed are 0. Assumes nothing.
+use mathlib.Core.List.{List}
+use mathlib.Core.Path.{_≡_}
+use Prim.Native.Nat.{ℕ, _-_, _<_}
 use native.Mathlib.Omega.{arith}
+use borrow.Author.Count.{below-more}
 use borrow.Author.Needs.{needs}
 use lib.ListN.{getD}
 use mir.Syntax.{w64}
 use mir.Val.{Fits}
-use Rattle.rows.specs.Rows.{Between, rowWords}
-use Rattle.rows.proofs.Marks.{none-between, without-first, some-marked}
+use Rattle.rows.specs.Rows.{rowWords}
+use Rattle.rows.proofs.Marks.{narrow-none, some-marked}
 use Rattle.rows.proofs.none_marked.Statement.{statement}
 use Rattle.rows.proofs.none_marked.Tie as tie
 
+record Passed (row : List ℕ) (i : ℕ) : Type 0 where
+  pub zeros : (j : ℕ) → j < i → getD row j 0 ≡ 0
+
 abbrev Inv-loop : tie.InvT-loop
-Inv-loop words row i₀ i = Between i words row
+Inv-loop words row i₀ i = Passed row i
 
 abbrev μ-loop : tie.MeasureT-loop
 μ-loop words row i₀ i = rowWords - i
 
 loop-holds : tie.Need-loop-holds Inv-loop μ-loop
-loop-holds c = c .pre
+loop-holds c = record { zeros = λ j l. absurd (omega arith) }
+
+is-end-requires : tie.Need-is-end-requires Inv-loop μ-loop
+is-end-requires c κs = search needs
 
 mul-if2 : tie.Need-mul-if2 Inv-loop μ-loop
 mul-if2 c = search needs
@@ -27,7 +36,7 @@ array-read-if2 c = search needs
 
 returns : tie.Need-returns Inv-loop μ-loop
 returns c =
-    let l = c .before .before .before in
+    let l = c .before .before .before .before in
     let fits : Fits w64 (getD (l .before .args .t1) (l .loop .i) 0) = search needs in
     record { empty = λ t. absurd t; some = λ _. some-marked _ (l .loop .i) (fits .fits) (c .if2 .taken) }
 
@@ -38,13 +47,15 @@ loop-less : tie.Need-loop-less Inv-loop μ-loop
 loop-less c = search needs
 
 loop-again : tie.Need-loop-again Inv-loop μ-loop
-loop-again c = without-first (c .before .before .before .loop .inv) (c .if2 .left)
+loop-again c = record { zeros = below-more _ _ (c .before .before .before .before .loop .inv .zeros) (search needs) }
 
 returns-2 : tie.Need-returns-2 Inv-loop μ-loop
-returns-2 c = record { empty = λ _. none-between (c .before .loop .inv) (omega (arith, c .before .loop .inv .most)); some = λ t. absurd t }
+returns-2 c = record { empty = λ _. narrow-none (c .before .before .pre) (omega arith) (c .before .loop .inv .zeros); some = λ t. absurd t }
 
 returns-3 : tie.Need-returns-3 Inv-loop μ-loop
-returns-3 c = record { empty = λ _. none-between (c .before .before .loop .inv) (omega arith); some = λ t. absurd t }
+returns-3 c =
+    let l = c .before .before .before in
+    record { empty = λ _. narrow-none (l .before .pre) (c .before .is-end .ensures (c .if1 .taken)) (l .loop .inv .zeros); some = λ t. absurd t }
 
 pub none-marked-spec : {M : Type 1} → statement M
 none-marked-spec =
@@ -53,6 +64,7 @@ none-marked-spec =
     Inv-loop
     μ-loop
     loop-holds
+    is-end-requires
     mul-if2
     array-read-if2
     returns
