@@ -1,17 +1,18 @@
 -- The nodes of a forest written from arrays, slot by slot, and the arrays of a walk. Assumes nothing.
 use mathlib.Core.Path.{_≡_, refl, sym, ap, _∙_}
 use mathlib.Core.Bool.{Bool}
-use mathlib.Core.List.{List, _++_}
-use Prim.Native.Nat.{ℕ, zero, suc, _+_, _*_, _^_, _≤_, _<_}
+use mathlib.Core.List.{List, [], _∷_, _++_}
+use Prim.Native.Nat.{ℕ, zero, suc, _+_, _*_, _/_, _^_, _≤_, _<_}
 use native.Mathlib.Omega.{arith}
 use native.Mathlib.Numerals.{add-one, one-add}
 use lib.ListN.{length, getD, length-map}
-use Rattle.bits.specs.Bits.{putField}
 use Rattle.lists.specs.Lists.{range, item, flat, sum}
 use Rattle.lists.proofs.Ranges.{length-range, getD-map-range}
 use Rattle.lists.proofs.Growing.{range-more, map-append, flat-map-more}
+use Rattle.packing.specs.Packing.{fieldsOf}
 use Rattle.packing.specs.Holding.{Put}
-use Rattle.packing.proofs.Putting.{put-none, put-both, put-behind, put-same}
+use Rattle.packing.proofs.Putting.{put-none, put-behind, put-same}
+use Rattle.rows.specs.Rows.{slotsMax}
 use Rattle.graph.specs.Chains.{Entry}
 use Rattle.graph.specs.declared.Node.{Node}
 use Rattle.graph.specs.Kept.{nodeOf}
@@ -26,11 +27,35 @@ use Rattle.picture.specs.Inner.{Read, Known}
 use Rattle.network.specs.Words.{slotCount, joins}
 use Rattle.network.proofs.Named.{accepted-named}
 use Rattle.network.proofs.Blocks.{read-slots}
-use Rattle.evidence.specs.Layout.{nodeWidths, nodeBytes}
+use Rattle.evidence.specs.Layout.{nodeWidths, nodeBytes, evidenceMax}
 use Rattle.evidence.specs.Canonical.{nodeFields, forestFields, forestOf}
-use Rattle.evidence.proofs.Places.{node-whole, forest-whole}
+use Rattle.evidence.proofs.Places.{node-whole, node-bytes, forest-whole}
 use Rattle.evidence.proofs.Fields.{noNode, nodes-span}
-use Rattle.choose.specs.Writing.{nodesIn}
+use Rattle.choose.specs.Writing.{nodesIn, NodeFits}
+
+-- a node's bytes, by the width of a location
+node-size : (e : Edition) → (e .«location_bits» + e .«location_bits») / 8 ≡ nodeBytes e
+unfolding nodeBytes nodeWidths sum
+node-size e = omega arith
+
+-- a node of a known edition fits where there is room for it
+pub node-fits : {e : Edition} {at v parent depth : ℕ} {buf : List ℕ} → Known e → at + v * nodeBytes e + nodeBytes e ≤ length buf → at ≤ evidenceMax → v < slotsMax
+    → parent < 2 ^ e .«location_bits» → depth < 2 ^ e .«location_bits» → NodeFits at v (e .«location_bits») parent depth buf
+unfolding nodeWidths sum
+node-fits {e} known room low few a b =
+    let w = e .«location_bits» in
+    let whole : nodeBytes e * 8 ≡ w + w = omega (arith, node-whole known) in
+    let bytes = node-bytes known in
+    record {
+      whole = rw (node-size e) whole;
+      two = rw (node-size e) (bytes .0);
+      three = rw (node-size e) (bytes .1);
+      room = rw (node-size e) room;
+      low = low;
+      few = few;
+      parent-fits = a;
+      depth-fits = b;
+    }
 
 module _ (ps ds : List ℕ) where
   length-nodes : (n : ℕ) → length (nodesIn ps ds n) ≡ n
@@ -52,25 +77,16 @@ module _ (ps ds : List ℕ) where
     unfolding forestFields nodesIn
     nodes-more v = rw (add-one, range-more 1 v, map-append, flat-map-more, one-add)
 
-    -- a node as one field of whole bytes
-    node-put : (buf : List ℕ) (k : ℕ) (x : Node) → Known e → k + nodeBytes e ≤ length buf → x .parent < 2 ^ e .«location_bits» → x .depth < 2 ^ e .«location_bits»
-        → Put buf (k * 8) (nodeFields e x) (putField buf (k * 8) (nodeBytes e * 8) (x .parent * 2 ^ e .«location_bits» + x .depth))
-    unfolding nodeFields nodeWidths sum
-    node-put buf k x known room a b =
-        let w = e .«location_bits» in
-        let size : w + w ≡ nodeBytes e * 8 = omega (arith, node-whole known) in
-        rw (← size) (put-both buf (k * 8) w w (x .parent) (x .depth) a b (omega arith))
-
     -- one slot more
-    pub nodes-next : {buf buf′ : List ℕ} (at v : ℕ) → Known e → Put buf (at * 8) (forestFields e (nodesIn ps ds v)) buf′ → at + v * nodeBytes e + nodeBytes e ≤ length buf′
-        → getD ps (v + 1) 0 < 2 ^ e .«location_bits» → getD ds (v + 1) 0 < 2 ^ e .«location_bits»
-        → Put buf (at * 8) (forestFields e (nodesIn ps ds (v + 1)))
-        (putField buf′ ((at + v * nodeBytes e) * 8) (nodeBytes e * 8) (getD ps (v + 1) 0 * 2 ^ e .«location_bits» + getD ds (v + 1) 0))
-    nodes-next {buf} {buf′} at v known p room a b =
+    pub nodes-next : {buf buf′ buf″ : List ℕ} (at v : ℕ) → Known e → Put buf (at * 8) (forestFields e (nodesIn ps ds v)) buf′
+        → let w = e .«location_bits» in Put buf′ ((at + v * ((w + w) / 8)) * 8) (fieldsOf (w ∷ w ∷ []) (getD ps (v + 1) 0 ∷ getD ds (v + 1) 0 ∷ [])) buf″
+        → Put buf (at * 8) (forestFields e (nodesIn ps ds (v + 1))) buf″
+    unfolding nodeFields nodeWidths
+    nodes-next at v known p q =
         let bits = rw (length-nodes v) at (nodes-span e (nodesIn ps ds v)) in
         rw (nodes-more v)
         (put-behind (at * 8) (forestFields e (nodesIn ps ds v)) (nodeFields e (node (v + 1))) p
-        (put-same (node-put buf′ (at + v * nodeBytes e) (node (v + 1)) known room a b) (omega (arith, bits, forest-whole known v)) refl))
+        (put-same (rw (node-size e) at q) (omega (arith, bits, forest-whole known v)) refl))
 
   -- ---- the arrays of a walk over a picture
 

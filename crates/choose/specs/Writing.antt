@@ -1,9 +1,11 @@
 -- The fields of a forest that stands in arrays, and what fits. Assumes nothing.
 use mathlib.Core.List.{List, [], _∷_, _++_, map}
-use Prim.Native.Nat.{ℕ, _+_, _*_, _^_, _≤_, _<_}
+use mathlib.Core.Path.{_≡_}
+use Prim.Native.Nat.{ℕ, _+_, _*_, _/_, _^_, _≤_, _<_}
 use lib.ListN.{length, getD}
 use Rattle.lists.specs.Lists.{range, sum}
 use Rattle.packing.specs.Packing.{Field, fieldsOf}
+use Rattle.rows.specs.Rows.{slotsMax}
 use Rattle.graph.specs.declared.Node.{Node}
 use Rattle.picture.specs.declared.Edition.{Edition}
 use Rattle.picture.specs.declared.Header.{Header}
@@ -20,6 +22,18 @@ nodesIn parents depths n = map (λ v. record { parent = getD parents v 0; depth 
 -- the fields of a section whose forest is in arrays
 unfoldable pub arraySection : Edition → Cost → List ℕ → List ℕ → ℕ → List Field
 arraySection e w parents depths n = fieldsOf sectionHeadWidths (w .block ∷ w .loss ∷ w .mark ∷ []) ++ forestFields e (nodesIn parents depths n)
+
+-- node v of a forest from byte `at` on, of two numbers with w bits each, takes two whole bytes or three; the numbers fit, and there is room. A
+-- place is low enough for the numbers of the code
+pub record NodeFits (at v w parent depth : ℕ) (buf : List ℕ) : Type 0 where
+  pub whole : (w + w) / 8 * 8 ≡ w + w
+  pub two : 2 ≤ (w + w) / 8
+  pub three : (w + w) / 8 ≤ 3
+  pub room : at + v * ((w + w) / 8) + (w + w) / 8 ≤ length buf
+  pub low : at ≤ evidenceMax
+  pub few : v < slotsMax
+  pub parent-fits : parent < 2 ^ w
+  pub depth-fits : depth < 2 ^ w
 
 -- a forest in arrays has an entry for each slot, its entries fit their widths, and there is room for it from byte `at` on. A place is low
 -- enough for the numbers of the code

@@ -1,9 +1,10 @@
 // Choosing a block, with evidence in a lent buffer.
 ghost use mathlib.Core.Path.{_≡_};
 ghost use mathlib.Core.List.{List, [], _∷_, _++_};
-ghost use Prim.Native.Nat.{ℕ, _+_, _*_, _≤_, _<_};
+ghost use Prim.Native.Nat.{ℕ, _+_, _*_, _/_, _≤_, _<_};
 ghost use lib.ListN.{length, drop};
 ghost use Rattle.lists.specs.Lists.{outcome};
+ghost use Rattle.packing.specs.Packing.{fieldsOf};
 ghost use Rattle.packing.specs.Holding.{Put};
 ghost use Rattle.rows.specs.Rows.{slotsMax};
 ghost use Rattle.picture.specs.Inner.{Read};
@@ -12,7 +13,7 @@ ghost use Rattle.network.specs.Rows.{SlotRowsOf, blocksMarked};
 ghost use Rattle.evidence.specs.Canonical.{headFields, forestFields, evidenceOf};
 ghost use Rattle.evidence.specs.Calls.{lengthFor, chooseFault, chosenBytes};
 ghost use Rattle.choose.specs.Answers.{choosing, choosingNumbers};
-ghost use Rattle.choose.specs.Writing.{nodesIn, arraySection, ForestFits, SectionFits, HeadFits};
+ghost use Rattle.choose.specs.Writing.{nodesIn, arraySection, NodeFits, ForestFits, SectionFits, HeadFits};
 ghost use Rattle.choose.specs.Sections.{Planned, WeighRows, SectionReady, SectionDone, SectionsReady, Sectioned, EvidenceReady};
 use evidence::BLOCK_AT;
 use evidence::BLOCK_BITS;
@@ -35,6 +36,7 @@ use network::Cost;
 use network::ENDPOINTS;
 use picture::Edition;
 use picture::Header;
+use picture::LOCATION_BITS;
 use picture::Reading;
 use picture::refusals::BUFFER;
 use rows::LOCATIONS;
@@ -55,21 +57,41 @@ pub struct Plan {
     pub length: usize,
 }
 
-// Parent and depth of each slot, which take whole bytes together, from byte `at` on. They have one lifetime, so that two fields of one forest
-// can be lent.
+// Node v, counted from 0, of a forest from byte `at` on: parent and depth have w bits each, and take whole bytes together.
+fn put_node(buf: &mut [u8], at: usize, v: usize, w: usize, parent: u16, depth: u16)
+    requires { ⌜ NodeFits at v w parent depth (now buf) ⌝ }
+    ensures { λ _. ⌜ Put (now (buf .entry)) ((at + v * ((w + w) / 8)) * 8) (fieldsOf (w ∷ w ∷ []) (parent ∷ depth ∷ [])) (now (buf .exit)) ⌝ }
+{
+    let size = (w + w) / BYTE_BITS;
+    let above = (parent as usize) << w;
+    bits::put_bytes(buf, at + v * size, size, above | (depth as usize));
+}
+
+// The same, where the width of edition 1 is told as the constant that it is: a loop over nodes is then compiled for it by itself, and writes
+// several at a time.
+fn put_next(buf: &mut [u8], at: usize, v: usize, w: usize, parent: u16, depth: u16)
+    requires { ⌜ NodeFits at v w parent depth (now buf) ⌝ }
+    ensures { λ _. ⌜ Put (now (buf .entry)) ((at + v * ((w + w) / 8)) * 8) (fieldsOf (w ∷ w ∷ []) (parent ∷ depth ∷ [])) (now (buf .exit)) ⌝ }
+{
+    if w == LOCATION_BITS {
+        put_node(buf, at, v, LOCATION_BITS, parent, depth);
+    } else {
+        put_node(buf, at, v, w, parent, depth);
+    }
+}
+
+// Parent and depth of each slot from byte `at` on. They have one lifetime, so that two fields of one forest can be lent.
 fn put_forest<'a>(buf: &mut [u8], at: usize, h: Header, parent: &'a [u16], depth: &'a [u16])
     requires { ⌜ ForestFits h at (now parent) (now depth) (now buf) ⌝ }
     ensures { λ _.
         ⌜ Put (now (buf .entry)) (at * 8) (forestFields (h .edition) (nodesIn (now (parent .entry)) (now (depth .entry)) (h .slots)))
         (now (buf .exit)) ⌝ }
 {
-    let size = evidence::node_bits(h.edition) / BYTE_BITS;
+    let w = h.edition.location_bits;
     let mut v: usize = 0;
     while v < h.slots {
-        let q = at + v * size;
+        put_next(buf, at, v, w, parent[v + 1], depth[v + 1]);
         v += 1;
-        let above = (parent[v] as usize) << h.edition.location_bits;
-        bits::put_bytes(buf, q, size, above | (depth[v] as usize));
     }
 }
 

@@ -62,7 +62,7 @@ pub const ENDPOINTS_MAX: usize = 200;
 const LINKS_MAX: usize = 2000;
 
 // The width of a location and the largest n, in edition 1 and in edition 2.
-const LOCATION_BITS: usize = 8;
+pub const LOCATION_BITS: usize = 8;
 
 const SLOTS_MAX: usize = 240;
 
