@@ -40,10 +40,10 @@ fn mark_rows(s: &[u8], h: Header, count: usize, services: bool, table: &mut [[u6
     let mut i: usize = 0;
     while i < count {
         if services {
-            let l = picture::nth_service_link(s, h, i);
+            let l = picture::nth_service_link(s, h, h.edition.location_bits, i);
             rows::mark(table, l.to, l.from);
         } else {
-            let l = picture::nth_link(s, h, i);
+            let l = picture::nth_link(s, h, h.edition.location_bits, i);
             rows::mark(table, l.from, l.to);
         }
         i += 1;

@@ -325,21 +325,19 @@ fn link_at(s: &[u8], p: usize, from_bits: usize, to_bits: usize) -> Link
     }
 }
 
-// Link i, counted from 0.
-pub fn nth_link(s: &[u8], h: Header, i: usize) -> Link
-    requires { ⌜ Limited h × (i < h .links) ⌝ }
+// Link i, counted from 0. The width w of a location is the edition's, as a number of its own: see `links_fault`.
+pub fn nth_link(s: &[u8], h: Header, w: usize, i: usize) -> Link
+    requires { ⌜ Limited h × (w ≡ h .edition .«location_bits») × (i < h .links) ⌝ }
     ensures { λ r. ⌜ r ≡ getD (pictureWith h (now (s .entry)) .links) i noLink ⌝ }
 {
-    let w = h.edition.location_bits;
     link_at(s, find_places(h).links + i * (w + w), w, w)
 }
 
 // Service link i, counted from 0.
-pub fn nth_service_link(s: &[u8], h: Header, i: usize) -> Link
-    requires { ⌜ Limited h × (i < h .«service_links») ⌝ }
+pub fn nth_service_link(s: &[u8], h: Header, w: usize, i: usize) -> Link
+    requires { ⌜ Limited h × (w ≡ h .edition .«location_bits») × (i < h .«service_links») ⌝ }
     ensures { λ r. ⌜ r ≡ getD (pictureWith h (now (s .entry)) .serviceLinks) i noLink ⌝ }
 {
-    let w = h.edition.location_bits;
     link_at(
         s,
         find_places(h).service_links + i * (w + ENDPOINT_BITS),
@@ -390,21 +388,33 @@ pub fn link_fault(l: Link, n: usize) -> u8
     0
 }
 
-// The fault of the first link that names what is not there.
-fn links_fault(s: &[u8], h: Header) -> u8
-    requires { ⌜ Limited h ⌝ }
+// The fault of the first link that names what is not there, by the width of a location.
+fn links_fault_by(s: &[u8], h: Header, w: usize) -> u8
+    requires { ⌜ Limited h × (w ≡ h .edition .«location_bits») ⌝ }
     ensures { λ r. ⌜ r ≡ first (map (linkFault (h .slots)) (pictureWith h (now (s .entry)) .links)) ⌝ }
 {
     let count = h.links;
     let mut i: usize = 0;
     while i < count {
-        let fault = link_fault(nth_link(s, h, i), h.slots);
+        let fault = link_fault(nth_link(s, h, w, i), h.slots);
         if fault != 0 {
             return fault;
         }
         i += 1;
     }
     0
+}
+
+// The same. The width of edition 1 is told as the constant that it is: the loop is then compiled for it by itself.
+fn links_fault(s: &[u8], h: Header) -> u8
+    requires { ⌜ Limited h ⌝ }
+    ensures { λ r. ⌜ r ≡ first (map (linkFault (h .slots)) (pictureWith h (now (s .entry)) .links)) ⌝ }
+{
+    let w = h.edition.location_bits;
+    if w == LOCATION_BITS {
+        return links_fault_by(s, h, LOCATION_BITS);
+    }
+    links_fault_by(s, h, w)
 }
 
 // The fault of one service link: its location's before its endpoint's.
@@ -425,21 +435,33 @@ pub fn service_link_fault(l: Link, n: usize, d: usize) -> u8
     0
 }
 
-// The fault of the first service link that has one.
-fn service_links_fault(s: &[u8], h: Header) -> u8
-    requires { ⌜ Limited h ⌝ }
+// The fault of the first service link that has one, by the width of a location.
+fn service_links_fault_by(s: &[u8], h: Header, w: usize) -> u8
+    requires { ⌜ Limited h × (w ≡ h .edition .«location_bits») ⌝ }
     ensures { λ r. ⌜ r ≡ first (map (serviceLinkFault (h .slots) (h .endpoints)) (pictureWith h (now (s .entry)) .serviceLinks)) ⌝ }
 {
     let count = h.service_links;
     let mut i: usize = 0;
     while i < count {
-        let fault = service_link_fault(nth_service_link(s, h, i), h.slots, h.endpoints);
+        let fault = service_link_fault(nth_service_link(s, h, w, i), h.slots, h.endpoints);
         if fault != 0 {
             return fault;
         }
         i += 1;
     }
     0
+}
+
+// The same, as for links.
+fn service_links_fault(s: &[u8], h: Header) -> u8
+    requires { ⌜ Limited h ⌝ }
+    ensures { λ r. ⌜ r ≡ first (map (serviceLinkFault (h .slots) (h .endpoints)) (pictureWith h (now (s .entry)) .serviceLinks)) ⌝ }
+{
+    let w = h.edition.location_bits;
+    if w == LOCATION_BITS {
+        return service_links_fault_by(s, h, LOCATION_BITS);
+    }
+    service_links_fault_by(s, h, w)
 }
 
 // Zero bits up to the byte, then the end.
@@ -497,22 +519,21 @@ fn header_fault(s: &[u8], h: Header) -> u8
     body_fault(s, h)
 }
 
-// The number of the first fault, or 0.
-fn fault(s: &[u8]) -> u8
-    ensures { λ r. ⌜ r ≡ pictureFault (now (s .entry)) ⌝ }
+// The number of the first fault by a header, or 0.
+fn fault(s: &[u8], h: Header) -> u8
+    requires { ⌜ Known (h .edition) ⌝ }
+    ensures { λ r. ⌜ r ≡ first (faultsWith h (pictureWith h (now (s .entry))) (now (s .entry))) ⌝ }
 {
     if s.len() < LEAST_BYTES {
         return refusals::SHORT;
     }
-    let number = bits::field(s, 0, EDITION_BITS);
-    let e = edition_for(number);
-    if e.number != number {
+    if bits::field(s, 0, EDITION_BITS) != h.edition.number {
         return refusals::EDITION;
     }
-    if s.len() < slots_at(e) / 8 {
+    if s.len() < slots_at(h.edition) / 8 {
         return refusals::SHORT;
     }
-    header_fault(s, header_in(s, e))
+    header_fault(s, h)
 }
 
 // Reads a picture of any bytes: accepted, with the header's numbers, or refused with the number of its first fault.
@@ -520,9 +541,10 @@ pub fn read(s: &[u8]) -> Reading
     ensures answer { λ r. ⌜ r ≡ reading (now (s .entry)) ⌝ }
     ensures numbers { λ r. ⌜ readingNumbers r ≡ outcome (pictureFault (now (s .entry))) (headerValues (headerOf (now (s .entry)))) ⌝ }
 {
-    let number = fault(s);
+    let h = header_of(s);
+    let number = fault(s, h);
     if number == 0 {
-        return Reading::Accepted(header_of(s));
+        return Reading::Accepted(h);
     }
     Reading::Refused(number)
 }

@@ -24,6 +24,7 @@ use picture::ENDPOINTS_BITS;
 use picture::Header;
 use picture::LINK_COUNT_AFTER;
 use picture::LINKS_BITS;
+use picture::LOCATION_BITS;
 use picture::Link;
 use picture::NEAR_BITS;
 use picture::PROTECTED_BITS;
@@ -237,7 +238,7 @@ fn push_endpoints(
 }
 
 // The links or the service links, whose ends have these widths, from bit `at` on.
-fn push_links(
+fn push_links_by(
     buf: &mut [u8],
     at: usize,
     held: usize,
@@ -258,6 +259,27 @@ fn push_links(
         i += 1;
     }
     rest
+}
+
+// The same. Where these are the widths of edition 1, they are told as the constants that they are: the loop is then compiled for them by itself.
+fn push_links(
+    buf: &mut [u8],
+    at: usize,
+    held: usize,
+    pairs: &[[u16; 2]],
+    from_bits: usize,
+    to_bits: usize,
+) -> usize
+    requires { ⌜ LinksFit at held «from_bits» «to_bits» (now pairs) (now buf) ⌝ }
+    ensures { λ r.
+        ⌜ Follows (now (buf .entry)) at held (flat (map (linkFields («from_bits» ∷ «to_bits» ∷ [])) (map linkFrom (now (pairs .entry))))) (now (buf .exit)) (at + length (now (pairs .entry)) * («from_bits» + «to_bits»)) r ⌝ }
+{
+    if from_bits == LOCATION_BITS {
+        if to_bits == LOCATION_BITS {
+            return push_links_by(buf, at, held, pairs, LOCATION_BITS, LOCATION_BITS);
+        }
+    }
+    push_links_by(buf, at, held, pairs, from_bits, to_bits)
 }
 
 // The header.

@@ -72,7 +72,7 @@ loop-holds c =
 nth-service-link-requires : tie.Need-nth-service-link-requires Inv-loop μ-loop
 nth-service-link-requires c κs =
     let s = start (c .before .before) in
-    (read-limited _ _ (s .pre .0), omega (arith, s .pre .1, ap (λ (b : Bool). countOf b (s .args .h)) (c .if1 .taken)))
+    (read-limited _ _ (s .pre .0), refl, omega (arith, s .pre .1, ap (λ (b : Bool). countOf b (s .args .h)) (c .if1 .taken)))
 
 mark-requires : tie.Need-mark-requires Inv-loop μ-loop
 mark-requires c κs =
@@ -82,7 +82,7 @@ mark-requires c κs =
     let k = read-services _ _ (s .pre .0) in
     let n = read-limited _ _ (s .pre .0) in
     let many = l .inv .many ∙ ap rowsFor (t .if1 .taken) in
-    let below = nth-service-link-requires t κs .1 in
+    let below = nth-service-link-requires t κs .2 in
     let small : l .i < length (pictureOf (s .args .s .now) .serviceLinks) = omega (arith, read-services-length _ _ (s .pre .0), below) in
     rw (c .before .nth-service-link .ensures, read-picture _ _ (s .pre .0))
     (omega (arith, many, n .counts .endpoints-most, k .endpoint-most (l .i) small), omega (arith, read-slots-most _ _ (s .pre .0), k .location (l .i) small))
@@ -90,7 +90,7 @@ mark-requires c κs =
 nth-link-requires : tie.Need-nth-link-requires Inv-loop μ-loop
 nth-link-requires c κs =
     let s = start (c .before .before) in
-    (read-limited _ _ (s .pre .0), omega (arith, s .pre .1, ap (λ (b : Bool). countOf b (s .args .h)) (c .if1 .left)))
+    (read-limited _ _ (s .pre .0), refl, omega (arith, s .pre .1, ap (λ (b : Bool). countOf b (s .args .h)) (c .if1 .left)))
 
 mark-requires-2 : tie.Need-mark-requires-2 Inv-loop μ-loop
 mark-requires-2 c κs =
@@ -100,7 +100,7 @@ mark-requires-2 c κs =
     let k = read-links _ _ (s .pre .0) in
     let z = read-slots-most _ _ (s .pre .0) in
     let many = l .inv .many ∙ ap rowsFor (e .if1 .left) in
-    let below = nth-link-requires e κs .1 in
+    let below = nth-link-requires e κs .2 in
     let small : l .i < length (pictureOf (s .args .s .now) .links) = omega (arith, read-links-length _ _ (s .pre .0), below) in
     rw (c .before .nth-link .ensures, read-picture _ _ (s .pre .0)) (omega (arith, many, k .from (l .i) small), omega (arith, k .to (l .i) small))
 

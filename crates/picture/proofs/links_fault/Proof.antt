@@ -1,60 +1,19 @@
--- `links_fault` finds the first link that names what is not there. Assumes nothing.
-use Prim.Native.Nat.{_-_}
-use native.Mathlib.Omega.{arith}
-use Rattle.picture.specs.Picture.{pictureWith}
-use Rattle.picture.specs.Faults.{linkFault}
-use Rattle.picture.specs.Rules.{noLink}
-use Rattle.picture.proofs.Starts.{links-length}
-use Rattle.picture.proofs.Finding.{Scanning, scanning-begun, scanning-hit, scanning-miss, scanning-ended}
-use borrow.Author.Needs.{needs}
+-- `links_fault` tells the width as a constant where it is one. Assumes nothing.
+use mathlib.Core.Path.{refl, sym}
 use Rattle.picture.proofs.links_fault.Statement.{statement}
 use Rattle.picture.proofs.links_fault.Tie as tie
 
-abbrev Inv-loop : tie.InvT-loop
-Inv-loop s h count i₀ i = Scanning (linkFault (h .slots)) noLink (pictureWith h s .links) (h .links) i
+links-fault-by-requires : tie.Need-links-fault-by-requires
+links-fault-by-requires c κs = (c .before .before .pre, sym (c .if1 .taken))
 
-abbrev μ-loop : tie.MeasureT-loop
-μ-loop s h count i₀ i = h .links - i
+returns : tie.Need-returns
+returns c = c .links-fault-by .ensures
 
-loop-holds : tie.Need-loop-holds Inv-loop μ-loop
-loop-holds c = scanning-begun (links-length _ _)
+links-fault-by-requires-2 : tie.Need-links-fault-by-requires-2
+links-fault-by-requires-2 c κs = (c .before .before .pre, refl)
 
-nth-link-requires : tie.Need-nth-link-requires Inv-loop μ-loop
-nth-link-requires c κs = search needs
-
-link-fault-requires : tie.Need-link-fault-requires Inv-loop μ-loop
-link-fault-requires c κs = search needs
-
-returns : tie.Need-returns Inv-loop μ-loop
-returns c =
-    let k = c .before .before in
-    scanning-hit (k .before .before .loop .inv) (omega arith) (k .nth-link .ensures) (c .before .link-fault .ensures) (c .if1 .taken)
-
-add-i : tie.Need-add-i Inv-loop μ-loop
-add-i c = search needs
-
-loop-less : tie.Need-loop-less Inv-loop μ-loop
-loop-less c = search needs
-
-loop-again : tie.Need-loop-again Inv-loop μ-loop
-loop-again c =
-    let k = c .before .before in
-    scanning-miss (k .before .before .loop .inv) (omega arith) (k .nth-link .ensures) (c .before .link-fault .ensures) (c .if1 .left)
-
-returns-2 : tie.Need-returns-2 Inv-loop μ-loop
-returns-2 c = scanning-ended (c .before .loop .inv) (omega arith)
+returns-2 : tie.Need-returns-2
+returns-2 c = c .links-fault-by2 .ensures
 
 pub links-fault-spec : {M : Type 1} → statement M
-links-fault-spec =
-    tie.close
-    (tie.spec
-    Inv-loop
-    μ-loop
-    loop-holds
-    nth-link-requires
-    link-fault-requires
-    returns
-    add-i
-    loop-less
-    loop-again
-    returns-2)
+links-fault-spec = tie.close (tie.spec links-fault-by-requires returns links-fault-by-requires-2 returns-2)

@@ -14,19 +14,19 @@ use Rattle.picture.proofs.nth_link.Statement.{statement}
 use Rattle.picture.proofs.nth_link.Tie as tie
 
 -- the rows before it take no more than all of them
-before : (c : tie.After-find-places) → let a = c .before .before .args in
-    a .i * sum (linkWidths (a .h .edition)) ≤ linksMax * sum (linkWidths edition2)
+before : (c : tie.After-find-places) → let a = c .before .before .args in a .i * (a .w + a .w) ≤ linksMax * sum (linkWidths edition2)
+unfolding linkWidths sum
 before c =
     let p = c .before .before .pre in
     let h = c .before .before .args .h in
-    let i : c .before .before .args .i ≤ h .links = omega (arith, p .1) in
-    omega (arith, few _ (p .0) .links, mul-le-mul-right (sum (linkWidths (h .edition))) i)
+    let i : c .before .before .args .i ≤ h .links = omega (arith, p .2) in
+    rw (p .1) (omega (arith, few _ (p .0) .links, mul-le-mul-right (sum (linkWidths (h .edition))) i))
 
 find-places-requires : tie.Need-find-places-requires
 find-places-requires c κs = search needs
 
 add-link-at : tie.Need-add-link-at
-add-link-at c = omega (arith, few _ (c .before .before .pre .0))
+add-link-at c = let p = c .before .before .pre in omega (arith, p .1, few _ (p .0))
 
 mul-link-at : tie.Need-mul-link-at
 unfolding linkWidths sum
@@ -38,16 +38,17 @@ add-link-at-2 c =
     omega (arith, before (c .before), ordered _ (c .before .before .before .pre .0), ap (λ (p : Places). p .links) (c .before .find-places .ensures))
 
 link-at-requires : tie.Need-link-at-requires
-link-at-requires c κs = omega (arith, few _ (c .before .before .before .pre .0))
+link-at-requires c κs = let p = c .before .before .before .pre in omega (arith, p .1, few _ (p .0))
 
 returns : tie.Need-returns
 unfolding placesOf linkWidths sum
 returns c =
     let a = c .before .before .before .before .args in
+    let p = c .before .before .before .before .pre in
     let w = a .h .edition .«location_bits» in
-    c .link-at .ensures ∙ ap (λ (p : Places). linkAt (linkWidths (a .h .edition)) (a .s .now) (p .links + a .i * (w + w))) (c .before .before .find-places .ensures)
+    rw (p .1) at (c .link-at .ensures) ∙ ap (λ (p : Places). linkAt (linkWidths (a .h .edition)) (a .s .now) (p .links + a .i * (w + w))) (c .before .before .find-places .ensures)
     ∙ ap (λ (v : ℕ). linkAt (linkWidths (a .h .edition)) (a .s .now) (linksAt (a .h) + a .i * (w + v))) (sym (add-zero w))
-    ∙ sym (link-row (a .h) (a .s .now) (a .i) (c .before .before .before .before .pre .1))
+    ∙ sym (link-row (a .h) (a .s .now) (a .i) (p .2))
 
 pub nth-link-spec : {M : Type 1} → statement M
 nth-link-spec =

@@ -14,19 +14,19 @@ use Rattle.picture.proofs.nth_service_link.Statement.{statement}
 use Rattle.picture.proofs.nth_service_link.Tie as tie
 
 -- the rows before it take no more than all of them
-before : (c : tie.After-find-places) → let a = c .before .before .args in
-    a .i * sum (serviceLinkWidths (a .h .edition)) ≤ linksMax * sum (serviceLinkWidths edition2)
+before : (c : tie.After-find-places) → let a = c .before .before .args in a .i * (a .w + 8) ≤ linksMax * sum (serviceLinkWidths edition2)
+unfolding serviceLinkWidths sum
 before c =
     let p = c .before .before .pre in
     let h = c .before .before .args .h in
-    let i : c .before .before .args .i ≤ h .«service_links» = omega (arith, p .1) in
-    omega (arith, few _ (p .0) .services, mul-le-mul-right (sum (serviceLinkWidths (h .edition))) i)
+    let i : c .before .before .args .i ≤ h .«service_links» = omega (arith, p .2) in
+    rw (p .1) (omega (arith, few _ (p .0) .services, mul-le-mul-right (sum (serviceLinkWidths (h .edition))) i))
 
 find-places-requires : tie.Need-find-places-requires
 find-places-requires c κs = search needs
 
 add-link-at : tie.Need-add-link-at
-add-link-at c = omega (arith, few _ (c .before .before .pre .0))
+add-link-at c = let p = c .before .before .pre in omega (arith, p .1, few _ (p .0))
 
 mul-link-at : tie.Need-mul-link-at
 unfolding serviceLinkWidths sum
@@ -38,15 +38,16 @@ add-link-at-2 c =
     omega (arith, before (c .before), ordered _ (c .before .before .before .pre .0), ap (λ (p : Places). p .«service_links») (c .before .find-places .ensures))
 
 link-at-requires : tie.Need-link-at-requires
-link-at-requires c κs = omega (arith, few _ (c .before .before .before .pre .0))
+link-at-requires c κs = let p = c .before .before .before .pre in omega (arith, p .1, few _ (p .0))
 
 returns : tie.Need-returns
 unfolding placesOf serviceLinkWidths sum
 returns c =
     let a = c .before .before .before .before .args in
+    let p = c .before .before .before .before .pre in
     let w = a .h .edition .«location_bits» in
-    c .link-at .ensures ∙ ap (λ (p : Places). linkAt (serviceLinkWidths (a .h .edition)) (a .s .now) (p .«service_links» + a .i * (w + 8))) (c .before .before .find-places .ensures)
-    ∙ sym (service-row (a .h) (a .s .now) (a .i) (c .before .before .before .before .pre .1))
+    rw (p .1) at (c .link-at .ensures) ∙ ap (λ (p : Places). linkAt (serviceLinkWidths (a .h .edition)) (a .s .now) (p .«service_links» + a .i * (w + 8))) (c .before .before .find-places .ensures)
+    ∙ sym (service-row (a .h) (a .s .now) (a .i) (p .2))
 
 pub nth-service-link-spec : {M : Type 1} → statement M
 nth-service-link-spec =

@@ -1,60 +1,19 @@
--- `service_links_fault` finds the first service link that names what is not there. Assumes nothing.
-use Prim.Native.Nat.{_-_}
-use native.Mathlib.Omega.{arith}
-use Rattle.picture.specs.Picture.{pictureWith}
-use Rattle.picture.specs.Faults.{serviceLinkFault}
-use Rattle.picture.specs.Rules.{noLink}
-use Rattle.picture.proofs.Starts.{services-length}
-use Rattle.picture.proofs.Finding.{Scanning, scanning-begun, scanning-hit, scanning-miss, scanning-ended}
-use borrow.Author.Needs.{needs}
+-- `service_links_fault` tells the width as a constant where it is one. Assumes nothing.
+use mathlib.Core.Path.{refl, sym}
 use Rattle.picture.proofs.service_links_fault.Statement.{statement}
 use Rattle.picture.proofs.service_links_fault.Tie as tie
 
-abbrev Inv-loop : tie.InvT-loop
-Inv-loop s h count i₀ i = Scanning (serviceLinkFault (h .slots) (h .endpoints)) noLink (pictureWith h s .serviceLinks) (h .«service_links») i
+service-links-fault-by-requires : tie.Need-service-links-fault-by-requires
+service-links-fault-by-requires c κs = (c .before .before .pre, sym (c .if1 .taken))
 
-abbrev μ-loop : tie.MeasureT-loop
-μ-loop s h count i₀ i = h .«service_links» - i
+returns : tie.Need-returns
+returns c = c .service-links-fault-by .ensures
 
-loop-holds : tie.Need-loop-holds Inv-loop μ-loop
-loop-holds c = scanning-begun (services-length _ _)
+service-links-fault-by-requires-2 : tie.Need-service-links-fault-by-requires-2
+service-links-fault-by-requires-2 c κs = (c .before .before .pre, refl)
 
-nth-service-link-requires : tie.Need-nth-service-link-requires Inv-loop μ-loop
-nth-service-link-requires c κs = search needs
-
-service-link-fault-requires : tie.Need-service-link-fault-requires Inv-loop μ-loop
-service-link-fault-requires c κs = search needs
-
-returns : tie.Need-returns Inv-loop μ-loop
-returns c =
-    let k = c .before .before in
-    scanning-hit (k .before .before .loop .inv) (omega arith) (k .nth-service-link .ensures) (c .before .service-link-fault .ensures) (c .if1 .taken)
-
-add-i : tie.Need-add-i Inv-loop μ-loop
-add-i c = search needs
-
-loop-less : tie.Need-loop-less Inv-loop μ-loop
-loop-less c = search needs
-
-loop-again : tie.Need-loop-again Inv-loop μ-loop
-loop-again c =
-    let k = c .before .before in
-    scanning-miss (k .before .before .loop .inv) (omega arith) (k .nth-service-link .ensures) (c .before .service-link-fault .ensures) (c .if1 .left)
-
-returns-2 : tie.Need-returns-2 Inv-loop μ-loop
-returns-2 c = scanning-ended (c .before .loop .inv) (omega arith)
+returns-2 : tie.Need-returns-2
+returns-2 c = c .service-links-fault-by2 .ensures
 
 pub service-links-fault-spec : {M : Type 1} → statement M
-service-links-fault-spec =
-    tie.close
-    (tie.spec
-    Inv-loop
-    μ-loop
-    loop-holds
-    nth-service-link-requires
-    service-link-fault-requires
-    returns
-    add-i
-    loop-less
-    loop-again
-    returns-2)
+service-links-fault-spec = tie.close (tie.spec service-links-fault-by-requires returns service-links-fault-by-requires-2 returns-2)
