@@ -452,7 +452,7 @@ fn service_links_fault_by(s: &[u8], h: Header, w: usize) -> u8
     0
 }
 
-// The same, as for links.
+// The same, with the width told as `links_fault` tells it.
 fn service_links_fault(s: &[u8], h: Header) -> u8
     requires { ⌜ Limited h ⌝ }
     ensures { λ r. ⌜ r ≡ first (map (serviceLinkFault (h .slots) (h .endpoints)) (pictureWith h (now (s .entry)) .serviceLinks)) ⌝ }
