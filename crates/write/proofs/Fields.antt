@@ -1,6 +1,6 @@
 -- The fields of a picture that is written: what they take, and that each value fits its width. Assumes nothing.
 use mathlib.Core.Path.{_≡_, refl, ap, _∙_}
-use mathlib.Core.Bool.{Bool, false}
+use mathlib.Core.Bool.{Bool}
 use mathlib.Core.List.{List, [], _∷_, map}
 use Prim.Native.Nat.{ℕ, suc, _+_, _/_, _^_, _<_, suc-le-suc, zero-le}
 use native.Mathlib.Omega.{arith}
@@ -8,7 +8,6 @@ use native.Mathlib.Nat.{zero-add}
 use lib.ListN.{length, getD}
 use Rattle.lists.specs.Lists.{on, sum, item, flat}
 use Rattle.lists.proofs.Faults.{on-le}
-use Rattle.lists.proofs.Zips.{length-zip, getD-zip}
 use Rattle.packing.specs.Packing.{Field, fieldsOf}
 use Rattle.packing.specs.Holding.{span, Fit}
 use Rattle.packing.proofs.Fields.{span-append, fit-append, fit-flat, span-flat}
@@ -18,12 +17,13 @@ use Rattle.picture.specs.declared.Header.{Header}
 use Rattle.picture.specs.declared.Link.{Link}
 use Rattle.picture.specs.Layout.{headerWidths, slotWidths, endpointWidths, linkWidths, serviceLinkWidths, slotsAt, endpointsAt, linksAt, serviceLinksAt, endAt, sizeOf}
 use Rattle.picture.specs.Picture.{Slot, Endpoint, Picture, slotOf, endpointOf}
-use Rattle.picture.specs.Rules.{noLink}
+use Rattle.picture.specs.Rules.{noLink, Sizes, Counts, States, Links}
+use Rattle.picture.specs.Inner.{Known}
 use Rattle.picture.specs.Answers.{headerValues}
-use Rattle.picture.proofs.Editions.{known-for, widths}
-use Rattle.write.specs.Columns.{Lists, Typed, endpointFrom, pictureFrom, headerFor}
+use Rattle.picture.proofs.Editions.{widths}
+use Rattle.picture.proofs.Kept.{ServiceLinks}
+use Rattle.write.specs.Columns.{headerFor}
 use Rattle.write.specs.Fields.{headerFields, slotFields, endpointFields, linkFields, pictureFields, pictureBytes}
-use Rattle.write.proofs.Right.{editionIn, headerFrom, Right}
 
 -- ---- what the fields take
 
@@ -103,37 +103,38 @@ links-fit : (a b : ℕ) (ls : List Link) → ((i : ℕ) → i < length ls → ge
 unfolding linkFields fieldsOf Fit
 links-fit a b ls f t = fit-flat noLink (linkFields (a ∷ b ∷ [])) ls (λ i s. (f i s, (t i s, tt)))
 
-pub header-fits : (l : Lists) → Right l → Fit (header-of (editionIn l) (pictureFrom l))
-unfolding headerFields headerFor headerWidths headerValues fieldsOf Fit pictureFrom
-header-fits l r =
-    let w = widths (known-for (l .edition)) in
-    let s = r .sizes in
-    let c = r .counts in
-    (w .number-fits, (omega (arith, w .size-fits, s .size-most), (omega (arith, w .slots-fit, s .slots-most), (r .near-limit, (omega (arith, c .endpoints-most), (omega (arith, c .links-most), (omega (arith, c .service-links-most), tt)))))))
+-- a picture that keeps the reader's rules in an edition, with numbers that have their room
+pub record Proper (e : Edition) (p : Picture) : Type 0 where
+  pub known : Known e
+  pub sizes : Sizes (headerFor e p)
+  pub near-limit : p .nearLimit < 2 ^ e .«location_bits»
+  pub counts : Counts (headerFor e p)
+  pub weights : (i : ℕ) → i < length (p .endpoints) → getD (p .endpoints) i (endpointOf p 0) .weight < 2 ^ 16
+  pub states : States (headerFor e p .slots) p
+  pub links : Links (headerFor e p .slots) p
+  pub serviceLinks : ServiceLinks (headerFor e p .slots) (headerFor e p .endpoints) p
 
-module _ (l : Lists) (t : Typed l) (r : Right l) where
-  abbrev p : Picture
-  p = pictureFrom l
+pub header-fits : {e : Edition} (p : Picture) → Known e → Sizes (headerFor e p) → p .nearLimit < 2 ^ e .«location_bits» → Counts (headerFor e p) → Fit (header-of e p)
+unfolding headerFields headerFor headerWidths headerValues fieldsOf Fit
+header-fits p k s n c =
+    let w = widths k in
+    (w .number-fits, (omega (arith, w .size-fits, s .size-most), (omega (arith, w .slots-fit, s .slots-most), (n, (omega (arith, c .endpoints-most), (omega (arith, c .links-most), (omega (arith, c .service-links-most), tt)))))))
 
-  abbrev e : Edition
-  e = editionIn l
-
+module _ {e : Edition} {p : Picture} (r : Proper e p) where
   slot-fits : (i : ℕ) → i < length (p .slots) → Fit (slotFields (getD (p .slots) i (slotOf p 0)))
   unfolding slotFields slotWidths fieldsOf Fit slotOf item headerFor
   slot-fits i s = (omega (arith, r .states .state (suc i) (suc-le-suc zero-le) s), (flag-fits _, tt))
 
   endpoint-fits : (i : ℕ) → i < length (p .endpoints) → Fit (endpointFields (getD (p .endpoints) i (endpointOf p 0)))
-  unfolding endpointFields endpointWidths fieldsOf Fit pictureFrom endpointFrom
-  endpoint-fits i s =
-      let m : i < length (l .weights) = omega (arith, length-zip endpointFrom (l .weights) (l .protected) (r .endpoints-even)) in
-      rw (getD-zip endpointFrom (l .weights) (l .protected) 0 false (endpointOf p 0) i m (omega (arith, r .endpoints-even))) (t .weight i, (flag-fits _, tt))
+  unfolding endpointFields endpointWidths fieldsOf Fit
+  endpoint-fits i s = (r .weights i s, (flag-fits _, tt))
 
-  pub picture-fits : Fit (pictureFields (editionIn l) (pictureFrom l))
+  pub picture-fits : Fit (pictureFields e p)
   unfolding pictureFields linkWidths serviceLinkWidths
   picture-fits =
-      let n : headerFrom l .slots < 2 ^ e .«location_bits» = unfold headerFor in omega (arith, widths (known-for (l .edition)) .slots-fit, r .sizes .slots-most) in
+      let n : headerFor e p .slots < 2 ^ e .«location_bits» = unfold headerFor in omega (arith, widths (r .known) .slots-fit, r .sizes .slots-most) in
       let d = r .counts .endpoints-most in
-      fit-append (header-of e p) _ (header-fits l r)
+      fit-append (header-of e p) _ (header-fits p (r .known) (r .sizes) (r .near-limit) (r .counts))
       (fit-append (slots-of e p) _ (fit-flat (slotOf p 0) slotFields (p .slots) slot-fits)
       (fit-append (endpoints-of e p) _ (fit-flat (endpointOf p 0) endpointFields (p .endpoints) endpoint-fits)
       (fit-append (links-of e p) (services-of e p)

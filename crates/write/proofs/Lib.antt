@@ -6,5 +6,6 @@ pub mod Reading
 pub mod Trips
 pub mod Rows
 pub mod Judging
+pub mod Making
 pub mod Putting
 pub mod Answering

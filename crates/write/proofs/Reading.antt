@@ -33,7 +33,7 @@ unfolding on
 flag-kept true = refl
 flag-kept false = refl
 
-flag-read : (x : ℕ) → x < 2 → on (eqb x 1) 1 ≡ x
+pub flag-read : (x : ℕ) → x < 2 → on (eqb x 1) 1 ≡ x
 unfolding on
 flag-read zero h = refl
 flag-read (suc zero) h = refl

@@ -2,6 +2,7 @@
 -- own bytes, and a refusal leaves the buffer. Assumes nothing.
 use mathlib.Core.Path.{_≡_, refl, sym, ap, ap₂, _∙_}
 use mathlib.Core.Logic.{_≢_}
+use mathlib.Core.Bool.{false}
 use mathlib.Core.List.{List, [], _∷_, append-nil, map-id}
 use Prim.Native.Nat.{ℕ, _+_, _/_, _^_, _≤_, _<_}
 use native.Mathlib.Omega.{arith}
@@ -10,7 +11,7 @@ use lib.ListN.{length, drop, length-map}
 use lib.Seq.{take-at, drop-length}
 use Rattle.bits.proofs.Reading.{fieldAt-lt}
 use Rattle.lists.proofs.Picks.{map-back}
-use Rattle.lists.proofs.Zips.{map-zip-first, map-zip-second, zip-columns}
+use Rattle.lists.proofs.Zips.{length-zip, getD-zip, map-zip-first, map-zip-second, zip-columns}
 use Rattle.packing.specs.Packing.{Bytes}
 use Rattle.packing.specs.Holding.{span, Holds}
 use Rattle.packing.proofs.Fields.{holds-fit}
@@ -19,7 +20,7 @@ use Rattle.packing.proofs.Written.{held-packed}
 use Rattle.picture.specs.declared.Edition.{Edition}
 use Rattle.picture.specs.declared.Header.{Header}
 use Rattle.picture.specs.Layout.{editionFor, editionNumber, editionOf, headerWidths, fieldIn, headerBytes, endpointsAt, linksAt, serviceLinksAt, endAt, sizeOf}
-use Rattle.picture.specs.Picture.{Picture, headerIn, headerOf, pictureOf, pictureWith}
+use Rattle.picture.specs.Picture.{Picture, endpointOf, headerIn, headerOf, pictureOf, pictureWith}
 use Rattle.picture.specs.Faults.{pictureFault}
 use Rattle.picture.specs.Rules.{noLink, Ends}
 use Rattle.picture.proofs.Editions.{known-for, known-number, widths, header-least}
@@ -29,10 +30,10 @@ use Rattle.write.specs.Columns.{Lists, Typed, slotFrom, endpointFrom, li
 use Rattle.write.specs.Fields.{pictureFields, pictureBytes}
 use Rattle.write.specs.Rules.{sizeFor}
 use Rattle.write.specs.Faults.{writeFault}
-use Rattle.write.specs.Answers.{writing, writingOf, writingNumbers, writtenBytes}
+use Rattle.write.specs.Answers.{writing, writingOf, writingNumbers, filled, bytesFor, writtenBytes}
 use Rattle.write.specs.Trips.{writtenPicture, ReadsBack, WritesBack}
 use Rattle.write.proofs.Right.{editionIn, headerFrom, Right}
-use Rattle.write.proofs.Fields.{span-picture, length-picture, picture-fits}
+use Rattle.write.proofs.Fields.{span-picture, length-picture, Proper, picture-fits}
 use Rattle.write.proofs.Judged.{write-right, right-write}
 use Rattle.write.proofs.Reading.{Says, holds-picture, header-kept, accepted-held}
 
@@ -66,46 +67,41 @@ picture-made k p =
     let vs = map-back noLink pairOf linkFrom (p .serviceLinks) (λ i s. refl) in
     λ i. record { blockSize = p .blockSize; nearLimit = p .nearLimit; slots = ss i; endpoints = cs i; links = ls i; serviceLinks = vs i }
 
--- ---- what is written is accepted, and says the lists
+-- ---- what is written is accepted, and says the picture
 
-module _ (l : Lists) (t : Typed l) (r : Right l) where
-  abbrev p : Picture
-  p = pictureFrom l
-
-  abbrev e : Edition
-  e = editionIn l
-
+module _ {e : Edition} {p : Picture} (r : Proper e p) where
   abbrev bs : List ℕ
   bs = pictureBytes e p
 
   says : Says e p bs
   unfolding pictureBytes
-  says = holds-picture e p bs (packed-holds (pictureFields e p) (picture-fits l t r))
+  says = holds-picture e p bs (packed-holds (pictureFields e p) (picture-fits r))
 
   edition-back : editionOf bs ≡ e
-  edition-back = ap editionFor (says .edition) ∙ known-number (known-for (l .edition))
+  edition-back = ap editionFor (says .edition) ∙ known-number (r .known)
 
-  header-back : headerOf bs ≡ headerFrom l
+  pub header-back : headerOf (pictureBytes e p) ≡ headerFor e p
   unfolding headerOf
   header-back = ap (λ (x : Edition). headerIn x bs) edition-back ∙ says .header
 
-  picture-back : pictureOf bs ≡ p
+  pub picture-back : pictureOf (pictureBytes e p) ≡ p
   unfolding pictureOf
   picture-back = ap (λ (h : Header). pictureWith h bs) header-back ∙ says .picture
 
-  ends : Ends (headerFrom l) bs
+  ends : Ends (headerFor e p) bs
   unfolding pictureBytes sizeOf
   ends = record { fill = λ i a b. packed-fill (pictureFields e p) i (omega (arith, span-picture e p)) (omega (arith, span-picture e p)); end = length-picture e p }
 
   -- no picture is shorter than its header
   header-room : headerBytes e ≤ length bs
   unfolding sizeOf endAt serviceLinksAt linksAt endpointsAt headerFor
-  header-room = omega (arith, length-picture e p, widths (known-for (l .edition)) .whole)
+  header-room = omega (arith, length-picture e p, widths (r .known) .whole)
 
-  written-kept : Kept bs
-  written-kept =
-      record {
-        header = omega (arith, header-room, header-least (known-for (l .edition)));
+  pub picture-accepted : pictureFault (pictureBytes e p) ≡ 0
+  picture-accepted =
+      kept-accepted bs
+      (record {
+        header = omega (arith, header-room, header-least (r .known));
         edition = says .edition ∙ ap (λ (x : Edition). x .number) (sym edition-back);
         whole = rw edition-back header-room;
         sizes = rw header-back (r .sizes);
@@ -115,16 +111,38 @@ module _ (l : Lists) (t : Typed l) (r : Right l) where
         links = rw (header-back, picture-back) (r .links);
         serviceLinks = rw (header-back, picture-back) (r .serviceLinks);
         ends = rw header-back ends;
+      })
+
+-- ---- the picture of lists
+
+module _ (l : Lists) (t : Typed l) (r : Right l) where
+  proper : Proper (editionIn l) (pictureFrom l)
+  proper =
+      record {
+        known = known-for (l .edition);
+        sizes = r .sizes;
+        near-limit = unfold pictureFrom in r .near-limit;
+        counts = r .counts;
+        weights = λ i s. unfold pictureFrom endpointFrom in
+            let m : i < length (l .weights) = omega (arith, length-zip endpointFrom (l .weights) (l .protected) (r .endpoints-even)) in
+            rw (getD-zip endpointFrom (l .weights) (l .protected) 0 false (endpointOf (pictureFrom l) 0) i m (omega (arith, r .endpoints-even))) (t .weight i);
+        states = r .states;
+        links = r .links;
+        serviceLinks = r .serviceLinks;
       }
 
-  reads-back : ReadsBack l bs
+  reads-back : ReadsBack l (pictureBytes (editionIn l) (pictureFrom l))
   unfolding listsIn
   reads-back =
-      let told : editionOf bs .number ≡ l .edition = ap (λ (x : Edition). x .number) edition-back ∙ sym (r .edition) in
-      record { accepted = kept-accepted bs written-kept; header = header-back; lists = ap₂ listsOf told picture-back ∙ lists-made l t (r .slots-even) (r .endpoints-even) }
+      let told = ap (λ (x : Edition). x .number) (edition-back proper) ∙ sym (r .edition) in
+      record {
+        accepted = picture-accepted proper;
+        header = header-back proper;
+        lists = ap₂ listsOf told (picture-back proper) ∙ lists-made l t (r .slots-even) (r .endpoints-even);
+      }
 
 pub written-reads : (l : Lists) (buf : List ℕ) → Typed l → writeFault l buf ≡ 0 → ReadsBack l (writtenPicture l buf)
-unfolding writtenPicture writtenBytes sizeFor
+unfolding writtenPicture writtenBytes filled bytesFor sizeFor
 written-reads l buf t z =
     rw (z, take-at (pictureBytes (editionIn l) (pictureFrom l)) (drop (sizeFor l) buf) (sizeFor l) (length-picture (editionIn l) (pictureFrom l)))
     (reads-back l t (write-right l buf z .0))
@@ -184,7 +202,7 @@ module _ (bs : List ℕ) (z : pictureFault bs ≡ 0) where
       sym (whole ∙ rw (drop-length bs, append-nil))
 
 pub read-writes : (bs buf : List ℕ) → Bytes bs → pictureFault bs ≡ 0 → length bs ≤ length buf → WritesBack bs buf
-unfolding writing writingOf writingNumbers writtenBytes
+unfolding writing writingOf writingNumbers writtenBytes filled bytesFor
 read-writes bs buf b z m =
     let w : writeFault (listsIn bs) buf ≡ 0 = right-write (listsIn bs) buf (right bs z) (omega (arith, size-same bs z)) in
     record { number = rw (w, size-same bs z); bytes = rw (w, size-same bs z, own-bytes bs z b) }
@@ -192,5 +210,5 @@ read-writes bs buf b z m =
 -- ---- a refusal
 
 pub refused-stays : (l : Lists) (buf : List ℕ) → writeFault l buf ≢ 0 → writtenBytes l buf ≡ buf
-unfolding writtenBytes
+unfolding writtenBytes filled
 refused-stays l buf n = rw (ne-eqb (writeFault l buf) 0 n)

@@ -19,23 +19,35 @@ unfoldable pub writingOf : ℕ → ℕ → Writing
 writingOf zero size = Length size
 writingOf (suc k) size = Refused (suc k)
 
--- what writing answers for any lists and any buffer
-unfoldable pub writing : Lists → List ℕ → Writing
-writing l buf = writingOf (writeFault l buf) (sizeFor l)
-
 -- 01's number and value for each case
 unfoldable pub writingNumbers : Writing → List ℕ
 writingNumbers (Length size) = 0 ∷ size ∷ []
 writingNumbers (Refused k) = k ∷ []
 
--- the buffer at exit: the picture in its first bytes and the rest as it was; after a refusal all as it was
-unfoldable pub writtenBytes : Lists → List ℕ → List ℕ
-writtenBytes l buf =
-    let written : List ℕ = pictureBytes (editionFor (l .edition)) (pictureFrom l) ++ drop (sizeFor l) buf in
-    cond (eqb (writeFault l buf) 0) written buf
+-- the buffer at exit, by the number of the first fault: the picture in its first bytes and the rest as it was; after a refusal all as it was
+unfoldable pub filled : ℕ → ℕ → List ℕ → List ℕ → List ℕ
+filled k size bs buf = cond (eqb k 0) (bs ++ drop size buf) buf
 
--- what the call ensures: its answer, 01's number and value of it, and the buffer at exit
-pub record Writes (l : Lists) (buf : List ℕ) (r : Writing) (out : List ℕ) : Type 0 where
-  pub answer : r ≡ writing l buf
-  pub numbers : writingNumbers r ≡ outcome (writeFault l buf) (sizeFor l ∷ [])
-  pub bytes : out ≡ writtenBytes l buf
+-- what a call that makes a picture ensures: its answer, 01's number and value of it, and the buffer at exit
+pub record Fills (k size : ℕ) (bs buf : List ℕ) (r : Writing) (out : List ℕ) : Type 0 where
+  pub answer : r ≡ writingOf k size
+  pub numbers : writingNumbers r ≡ outcome k (size ∷ [])
+  pub bytes : out ≡ filled k size bs buf
+
+-- ---- of any lists and any buffer
+
+-- what writing answers
+unfoldable pub writing : Lists → List ℕ → Writing
+writing l buf = writingOf (writeFault l buf) (sizeFor l)
+
+-- the picture of the lists
+unfoldable pub bytesFor : Lists → List ℕ
+bytesFor l = pictureBytes (editionFor (l .edition)) (pictureFrom l)
+
+-- the buffer at exit
+unfoldable pub writtenBytes : Lists → List ℕ → List ℕ
+writtenBytes l buf = filled (writeFault l buf) (sizeFor l) (bytesFor l) buf
+
+-- what the call ensures
+abbrev pub Writes : Lists → List ℕ → Writing → List ℕ → Type 0
+Writes l buf = Fills (writeFault l buf) (sizeFor l) (bytesFor l) buf

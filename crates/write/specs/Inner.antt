@@ -2,7 +2,7 @@
 use mathlib.Core.Bool.{Bool, cond}
 use mathlib.Core.List.{List, [], _++_}
 use mathlib.Core.Path.{_≡_}
-use Prim.Native.Nat.{ℕ, _+_, _*_, _%_, _^_, _≤_, _<_}
+use Prim.Native.Nat.{ℕ, _+_, _-_, _*_, _/_, _%_, _^_, _≤_, _<_}
 use lib.ListN.{length, getD, drop}
 use Rattle.bits.specs.Pushing.{flushed}
 use Rattle.lists.specs.Lists.{sum, first}
@@ -13,10 +13,11 @@ use Rattle.picture.specs.declared.Link.{Link}
 use Rattle.picture.specs.Layout.{editionFor, slotWidths, endpointWidths, stateMax, slotsAt}
 use Rattle.picture.specs.Inner.{Known}
 use Rattle.picture.specs.Faults.{linkFault, serviceLinkFault}
-use Rattle.write.specs.Columns.{Lists, handed, linkFrom, pictureFrom}
-use Rattle.write.specs.Fields.{headerFields, pictureBytes}
+use Rattle.write.specs.Columns.{Lists, handed, linkFrom}
+use Rattle.write.specs.Fields.{headerFields}
 use Rattle.write.specs.Rules.{sizeFor}
 use Rattle.write.specs.Faults.{handedFaults}
+use Rattle.write.specs.Answers.{bytesFor}
 
 -- ---- judging
 
@@ -86,6 +87,15 @@ pub record HeaderFits (h : Header) (buf : List ℕ) : Type 0 where
   pub room : slotsAt (h .edition) ≤ length buf * 8
   pub values : Fit (headerFields h)
 
+-- the bits from the last field's end up to the byte, and their room
+unfoldable pub fillBits : ℕ → ℕ
+fillBits end = (end + 7) / 8 * 8 - end
+
+pub record FillFits (end held : ℕ) (buf : List ℕ) : Type 0 where
+  pub room : end ≤ length buf * 8
+  pub low : end < 2 ^ 32
+  pub few : held < 2 ^ (end % 8)
+
 -- lists without a fault, with their header, and room for their picture
 pub record Ready (l : Lists) (h : Header) (buf : List ℕ) : Type 0 where
   pub right : first (handedFaults l) ≡ 0
@@ -94,4 +104,4 @@ pub record Ready (l : Lists) (h : Header) (buf : List ℕ) : Type 0 where
 
 -- the picture of the lists stands in the front of the buffer
 abbrev pub Written : Lists → List ℕ → List ℕ → Type 0
-Written l buf out = out ≡ pictureBytes (editionFor (l .edition)) (pictureFrom l) ++ drop (sizeFor l) buf
+Written l buf out = out ≡ bytesFor l ++ drop (sizeFor l) buf

@@ -4,6 +4,8 @@ ghost use mathlib.Core.Bool.{Bool};
 ghost use mathlib.Core.List.{[], _∷_, map, zipWith};
 ghost use Prim.Native.Nat.{_+_, _*_, _<_};
 ghost use lib.ListN.{length, getD};
+ghost use Rattle.bits.specs.Bits.{putField};
+ghost use Rattle.bits.specs.Pushing.{flushed};
 ghost use Rattle.lists.specs.Lists.{first, sum, flat};
 ghost use Rattle.packing.specs.Packing.{fieldsOf};
 ghost use Rattle.packing.specs.Holding.{Put};
@@ -14,7 +16,7 @@ ghost use Rattle.write.specs.Columns.{handed, slotFrom, endpointFrom, li
 ghost use Rattle.write.specs.Fields.{headerFields, slotFields, endpointFields, linkFields};
 ghost use Rattle.write.specs.Faults.{handedFaults};
 ghost use Rattle.write.specs.Answers.{Writes};
-ghost use Rattle.write.specs.Inner.{columnsHeader, under, pairFault, Follows, PairFits, SlotsFit, EndpointsFit, LinksFit, HeaderFits, Ready, Written};
+ghost use Rattle.write.specs.Inner.{columnsHeader, under, pairFault, Follows, PairFits, SlotsFit, EndpointsFit, LinksFit, HeaderFits, fillBits, FillFits, Ready, Written};
 use picture::BLOCK_SIZE_AT;
 use picture::BLOCK_SIZE_BITS;
 use picture::EDITION_BITS;
@@ -163,7 +165,7 @@ fn handed_fault(
 }
 
 // Two adjacent fields behind what is written up to bit `at`, written as one; the bits that fill no byte yet are held.
-fn push_pair(
+pub fn push_pair(
     buf: &mut [u8],
     at: usize,
     held: usize,
@@ -283,7 +285,7 @@ fn push_links(
 }
 
 // The header.
-fn put_header(buf: &mut [u8], h: Header)
+pub fn put_header(buf: &mut [u8], h: Header)
     requires { ⌜ HeaderFits h (now buf) ⌝ }
     ensures { λ _. ⌜ Put (now (buf .entry)) 0 (headerFields h) (now (buf .exit)) ⌝ }
 {
@@ -301,6 +303,15 @@ fn put_header(buf: &mut [u8], h: Header)
         LINKS_BITS,
         h.service_links,
     );
+}
+
+// Zero bits up to the byte, behind the last field, which ends at bit `end`.
+pub fn push_fill(buf: &mut [u8], end: usize, held: usize)
+    requires { ⌜ FillFits end held (now buf) ⌝ }
+    ensures { λ _. ⌜ now (buf .exit) ≡ putField (flushed (now (buf .entry)) end held) end (fillBits end) 0 ⌝ }
+{
+    let fill = (end + 7) / 8 * 8 - end;
+    bits::push_field(buf, end, held, fill, 0);
 }
 
 // The picture of lists that keep the rules, over the front of a buffer that is long enough.
@@ -333,9 +344,7 @@ fn put_picture(
         w,
         ENDPOINT_BITS,
     );
-    let end = at.end;
-    let fill = (end + 7) / 8 * 8 - end;
-    bits::push_field(buf, end, held, fill, 0);
+    push_fill(buf, at.end, held);
 }
 
 // Writes the picture of any lists in an edition into the buffer: its length, or the number of the first fault.

@@ -17,7 +17,8 @@ use Rattle.write.specs.Columns.{Lists, handed, pictureFrom}
 use Rattle.write.specs.Fields.{pictureFields}
 use Rattle.write.specs.Inner.{under, Follows, Ready}
 use Rattle.write.proofs.Fields.{slots-of, endpoints-of, links-of, services-of}
-use Rattle.write.proofs.Putting.{follows-at, ready-limited, ready-ends, slots-to, endpoints-to, links-to, services-to, header-ready, slots-ready, endpoints-ready, links-ready, services-ready, picture-put, picture-written}
+use Rattle.write.proofs.Making.{follows-at, fill-room, picture-made}
+use Rattle.write.proofs.Putting.{ready-limited, ready-makes, ready-written, slots-to, endpoints-to, links-to, services-to, header-ready, slots-ready, endpoints-ready, links-ready, services-ready}
 use borrow.Author.Needs.{needs}
 use Rattle.write.proofs.put_picture.Statement.{statement}
 use Rattle.write.proofs.put_picture.Tie as tie
@@ -110,16 +111,6 @@ services c =
     let w = start f .args .h .edition .«location_bits» in
     follows-at (c .push-links2 .ensures) (services-at f) (ap (λ (n : ℕ). n + length (start f .args .service-links .now) * (w + 8)) (services-at f) ∙ services-to (ready f))
 
--- the header and the four lists stand in the buffer
-put-all : (c : tie.After-push-links2) → let f = found (headed (slotted (ended (linked c)) .before)) in
-    Put (start f .args .buf .now) 0 (pictureFields (start f .args .h .edition) (pictureFrom (lists f))) (flushed (c .push-links2 .last .0) (endAt (start f .args .h)) (c .push-links2 .result))
-put-all c =
-    let k = linked c in
-    let e = ended k in
-    let s = slotted e in
-    let d = headed (s .before) in
-    picture-put (ready (found d)) (d .put-header .ensures) (slots s) (endpoints e) (links k) (services c)
-
 -- the buffer keeps its length
 slots-long : (c : tie.After-push-slots) → length (c .push-slots .last .0) ≡ length (start (found (headed (c .before))) .args .buf .now)
 slots-long c = c .push-slots .ensures .long ∙ headed (c .before) .put-header .ensures .long
@@ -168,32 +159,11 @@ push-links-requires-2 c κs =
     let f = found (headed (slotted (ended k) .before)) in
     rw (services-at f) (services-ready (ready f) (links-long k) (links k .small))
 
--- the end is a small number, and the fill goes up to the last byte
-add-fill : tie.Need-add-fill
-add-fill c =
-    let f = found (headed (slotted (ended (linked (c .before .before))) .before)) in
-    omega (arith, end-at f, ordered _ (ready-limited (ready f)) .most)
-
-mul-fill : tie.Need-mul-fill
-mul-fill c =
-    let f = found (headed (slotted (ended (linked (c .before .before))) .before)) in
-    omega (arith, end-at f, ordered _ (ready-limited (ready f)) .most)
-
-sub-fill : tie.Need-sub-fill
-sub-fill c = search needs
-
-push-field-requires : tie.Need-push-field-requires
-push-field-requires c κs =
+push-fill-requires : tie.Need-push-fill-requires
+push-fill-requires c κs =
     let k = c .before .before .before in
     let f = found (headed (slotted (ended (linked k)) .before)) in
-    let long = k .push-links2 .ensures .long ∙ links-long (linked k) in
-    record {
-      room = omega (arith, end-at f, ready-ends (ready f), long);
-      low = omega (arith, end-at f, ordered _ (ready-limited (ready f)) .most);
-      wide = omega arith;
-      few = rw (end-at f) (services k .small);
-      value = pow-pos _;
-    }
+    fill-room (ready-makes (ready f)) (k .push-links2 .ensures .long ∙ links-long (linked k)) (end-at f) (services k .small)
 
 same-length : tie.Need-same-length
 same-length c = search needs
@@ -202,14 +172,14 @@ returns : tie.Need-returns
 returns c =
     let w = c .before .before in
     let k = w .before .before .before .before in
-    let f = found (headed (slotted (ended (linked k)) .before)) in
-    let end = f .find-places .result .end in
-    let whole = flushed-whole (w .push-field .last .0) (end + ((end + 7) / 8 * 8 - end)) (w .push-field .result) (omega arith) in
-    let made =
-    sym whole ∙ w .push-field .ensures .same
-    ∙ ap (λ (n : ℕ). putField (flushed (k .push-links2 .last .0) n (k .push-links2 .result)) n ((n + 7) / 8 * 8 - n) 0) (end-at f) in
-    picture-written (ready f) (put-all k) made (λ j. omega (arith, f .before .before .before .before .before .slice-known .given j))
-    (λ j. omega (arith, c .slice-known7 .given j))
+    let l = linked k in
+    let e = ended l in
+    let s = slotted e in
+    let d = headed (s .before) in
+    let f = found d in
+    ready-written (ready f)
+    (picture-made (ready-makes (ready f)) (d .put-header .ensures) (slots s) (endpoints e) (links l) (services k) (end-at f) (w .push-fill .ensures) (λ j. omega (arith, f .before .before .before .before .before .slice-known .given j))
+    (λ j. omega (arith, c .slice-known7 .given j)))
 
 pub put-picture-spec : {M : Type 1} → statement M
 put-picture-spec =
@@ -222,9 +192,6 @@ put-picture-spec =
     push-endpoints-requires
     push-links-requires
     push-links-requires-2
-    add-fill
-    mul-fill
-    sub-fill
-    push-field-requires
+    push-fill-requires
     same-length
     returns)

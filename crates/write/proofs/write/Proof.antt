@@ -14,12 +14,12 @@ use Rattle.picture.proofs.Editions.{known-for}
 use Rattle.picture.proofs.Finding.{tells}
 use Rattle.write.specs.Columns.{Lists, handed}
 use Rattle.write.specs.Rules.{sizeFor}
-use Rattle.write.specs.Faults.{handedFaults}
+use Rattle.write.specs.Faults.{handedFaults, writeFault}
 use Rattle.write.specs.Inner.{columnsHeader, under, Ready, Written}
 use Rattle.write.proofs.Right.{editionIn, Right}
 use Rattle.write.proofs.Judged.{handed-right}
 use Rattle.write.proofs.Judging.{right-limited, right-size}
-use Rattle.write.proofs.Answering.{write-faulty, write-short, write-told}
+use Rattle.write.proofs.Answering.{fills-faulty, fills-short, fills-made}
 use borrow.Author.Needs.{needs}
 use Rattle.write.proofs.write.Statement.{statement}
 use Rattle.write.proofs.write.Tie as tie
@@ -85,10 +85,10 @@ edition-for-requires : tie.Need-edition-for-requires
 edition-for-requires c κs = search needs
 
 returns : tie.Need-returns
-unfolding handedFaults handed
+unfolding handedFaults handed writeFault
 returns c =
     let k = c .before .before in
-    write-faulty (lists k) _ (λ z. absurd (omega arith)) (tells _ (ap not (ne-eqb _ _ (λ z. c .if1 .taken (ap (λ (e : Edition). e .number) (edition k) ∙ sym z)))))
+    fills-faulty (handedFaults (lists k)) (λ z. absurd (omega arith)) (tells _ (ap not (ne-eqb _ _ (λ z. c .if1 .taken (ap (λ (e : Edition). e .number) (edition k) ∙ sym z)))))
 
 handed-fault-requires : tie.Need-handed-fault-requires
 unfolding under
@@ -97,7 +97,8 @@ handed-fault-requires c κs =
     (known k, same k ∙ ap columnsHeader (sym (alike c)))
 
 returns-2 : tie.Need-returns-2
-returns-2 c = write-faulty (lists (told (c .before .before))) _ (c .if2 .taken) (judged (c .before))
+unfolding writeFault
+returns-2 c = fills-faulty (handedFaults (lists (told (c .before .before)))) (c .if2 .taken) (judged (c .before))
 
 size-of-requires : tie.Need-size-of-requires
 size-of-requires c κs = subst Limited (sym (same (told (c .before .before)))) (right-limited (right c))
@@ -107,9 +108,10 @@ size : (c : tie.After-size-of) → c .size-of .result ≡ sizeFor (lists (told (
 size c = c .size-of .ensures ∙ ap sizeOf (same (told (c .before .before .before))) ∙ right-size (right (c .before))
 
 returns-3 : tie.Need-returns-3
+unfolding writeFault
 returns-3 c =
     let k = c .before in
-    write-short (lists (told (k .before .before .before))) _ (clean (k .before)) (omega (arith, c .if3 .taken, size k))
+    fills-short (handedFaults (lists (told (k .before .before .before)))) (clean (k .before)) (omega (arith, c .if3 .taken, size k))
 
 put-picture-requires : tie.Need-put-picture-requires
 unfolding under
@@ -123,13 +125,13 @@ same-length : tie.Need-same-length
 same-length c = search needs
 
 returns-4 : tie.Need-returns-4
-unfolding under
+unfolding under writeFault
 returns-4 c =
     let w = c .before .before in
     let k = w .before .before .before in
     let j = k .before .before .before in
     let buf = start (told j) .args .buf .now in
-    write-told (lists (told j)) buf (right (k .before)) (omega (arith, w .before .before .if3 .left, size k)) (size k)
+    fills-made (handedFaults (lists (told j))) (clean (k .before)) (omega (arith, w .before .before .if3 .left, size k)) (size k)
     (subst (λ (l : Lists). Written l buf (w .put-picture .last .0)) (alike j) (w .put-picture .ensures))
 
 pub write-spec : {M : Type 1} → statement M
