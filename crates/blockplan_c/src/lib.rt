@@ -1,6 +1,6 @@
 // The calls for C: each is one call of the library, and answers one number.
 ghost use mathlib.Core.Path.{_≡_};
-ghost use Prim.Native.Nat.{_^_, _<_};
+ghost use Prim.Native.Nat.{ℕ, _^_, _<_};
 ghost use lib.IntN.{pos, negℤ};
 ghost use mir.Syntax.{w32};
 ghost use mir.Val.{SFits};
@@ -9,7 +9,11 @@ ghost use Rattle.choose.specs.Answers.{choosing, choosingNumbers};
 ghost use Rattle.checker.specs.Answers.{checking, checkingNumbers};
 ghost use Rattle.acts.specs.declared.Act.the-variants.{Evict, Reload, Free};
 ghost use Rattle.acts.specs.Answers.{acting, actBytes, actingNumbers};
+ghost use Rattle.write.specs.declared.Writing.the-variants.{Length};
 ghost use Rattle.write.specs.Columns.{handed};
+ghost use Rattle.write.specs.Answers.{writingNumbers};
+ghost use Rattle.generator.specs.Generated.{askedHeader};
+ghost use Rattle.generator.specs.Answers.{generating, generatedBytes};
 ghost use Rattle.blockplan_c.specs.Answers.{toC, WritesForC};
 use acts::Acting;
 use checker::Checking;
@@ -41,6 +45,18 @@ fn checking_number(c: Checking) -> i32
     match c {
         Checking::Passed => 0,
         Checking::Refused(number) => refusal(number),
+    }
+}
+
+// What a call that makes a picture answers, as a number: no picture is too long for one.
+fn writing_number(w: Writing) -> i32
+    requires { ⌜ ((n : ℕ) → w ≡ Length n → n < 2 ^ 31) ⌝ }
+    ensures number { λ r. ⌜ r ≡ toC (writingNumbers w) ⌝ }
+    ensures fits { λ r. ⌜ SFits w32 r ⌝ }
+{
+    match w {
+        Writing::Length(length) => length_number(length),
+        Writing::Refused(number) => refusal(number),
     }
 }
 
@@ -120,7 +136,7 @@ pub extern "C" fn blockplan_write(
         ⌜ WritesForC (handed edition «block_size» «near_limit» (now (states .entry)) (now («is_near» .entry)) (now (weights .entry)) (now («is_protected» .entry)) (now (links .entry)) (now («service_links» .entry)))
         (now (picture .entry)) r (now (picture .exit)) ⌝ }
 {
-    match write::write(
+    writing_number(write::write(
         edition,
         block_size,
         near_limit,
@@ -131,8 +147,30 @@ pub extern "C" fn blockplan_write(
         links,
         service_links,
         picture,
-    ) {
-        Writing::Length(length) => length_number(length),
-        Writing::Refused(number) => refusal(number),
-    }
+    ))
+}
+
+// Fills a picture of edition 1 with draws from a seed: its length, or minus the number of the first fault.
+#[no_mangle]
+pub extern "C" fn blockplan_generate(
+    seed: u64,
+    block_size: u32,
+    blocks: u32,
+    endpoints: u32,
+    links: u32,
+    service_links: u32,
+    picture: &mut [u8],
+) -> i32
+    ensures answer { λ r. ⌜ r ≡ toC (writingNumbers (generating (askedHeader «block_size» blocks endpoints links «service_links») (now (picture .entry)))) ⌝ }
+    ensures bytes { λ _. ⌜ now (picture .exit) ≡ generatedBytes seed (askedHeader «block_size» blocks endpoints links «service_links») (now (picture .entry)) ⌝ }
+{
+    writing_number(generator::generate(
+        seed,
+        block_size,
+        blocks,
+        endpoints,
+        links,
+        service_links,
+        picture,
+    ))
 }

@@ -3,7 +3,7 @@
 use mathlib.Core.Path.{_≡_, refl, sym, ap, _∙_}
 use mathlib.Core.Logic.{_≢_, by-cases}
 use mathlib.Core.List.{List}
-use Prim.Native.Nat.{ℕ, _*_}
+use Prim.Native.Nat.{ℕ, _*_, _≤_}
 use native.Mathlib.Omega.{arith}
 use native.Mathlib.Nat.{mul-zero, mul-pos, mul-div-right, mul-mod-right}
 use native.Mathlib.Decide.{ℕ-discrete}
@@ -11,8 +11,10 @@ use borrow.Author.Tests.{ne-eqb}
 use lib.ListN.{take, drop}
 use lib.Seq.{take-at}
 use Rattle.picture.specs.declared.Header.{Header}
-use Rattle.picture.specs.Layout.{edition1, sizeOf}
+use Rattle.picture.specs.Layout.{pictureMax, edition1, sizeOf}
 use Rattle.picture.specs.Rules.{Sizes}
+use Rattle.picture.specs.Inner.{Known, Limited}
+use Rattle.picture.proofs.Long.{size-small}
 use Rattle.write.specs.Answers.{filled}
 use Rattle.write.proofs.Fields.{length-picture}
 use Rattle.write.proofs.Trips.{picture-accepted, header-back, picture-back}
@@ -40,6 +42,14 @@ pub generated-reads : (seed b blocks d l s : ℕ) (buf : List ℕ) → let h = a
     generateFault h buf ≡ 0 → ReadsAsDrawn seed h (take (sizeOf h) (generatedBytes seed h buf))
 unfolding askedHeader
 generated-reads seed b blocks d l s buf z = let h = askedHeader b blocks d l s in rw (front seed h refl refl buf z) (reads seed h refl refl buf z)
+
+-- no picture that is made is longer than the longest
+pub size-most : (b blocks d l s : ℕ) (buf : List ℕ) → let h = askedHeader b blocks d l s in generateFault h buf ≡ 0 → sizeOf h ≤ pictureMax
+unfolding askedHeader
+size-most b blocks d l s buf z =
+    let h = askedHeader b blocks d l s in
+    let r = made-right h buf z .0 in
+    size-small h (record { known = Known.first; slots = r .sizes .slots-most; counts = r .counts })
 
 -- a refusal leaves the buffer
 pub refused-stays : (seed : ℕ) (h : Header) (buf : List ℕ) → generateFault h buf ≢ 0 → generatedBytes seed h buf ≡ buf
