@@ -1,35 +1,42 @@
-//! Times of the archive and of the peer in one run, their growth, and the archive's peak stack, for
-//! pictures of both editions.
+//! Times of the archive and of the peer in one run, their growth, their spread over a thousand generated
+//! networks, and the archive's peak stack, for pictures of both editions.
 //!
 //! `bench [REPETITIONS]`: of how many measurements each time is the median.
+//! `bench load`: the generated networks alone.
 //! `bench stack`: the peak stack alone; ends with status 1 where it is over the header's limit.
 
+mod load;
 mod stack;
+mod times;
 
 use std::env;
 use std::hint::black_box;
 use std::process::exit;
-use std::time::{Duration, Instant};
+use std::time::Duration;
 
 use peer::archive;
 use peer::edition::{FIRST, MAX_EVIDENCE_BYTES, MAX_PICTURE_BYTES, SECOND};
 use peer::networks::{dense_held, hold_all, long_chain, Size};
 use peer::picture::{Picture, State};
 use peer::random::Random;
-use peer::{lists_of, pack, samples, Lists};
+use peer::{lists_of, pack, samples, Asked, Lists};
+
+use load::print_load;
+use times::{Both, Effort, Times};
 
 const DEFAULT_REPETITIONS: usize = 15;
-/// One measurement repeats its call until this is over, so that the clock's grain does not count.
 const LEAST_TIME: Duration = Duration::from_millis(2);
 const SEED: u64 = 7;
 /// The header for C, which promises a limit of stack.
 const HEADER: &str = include_str!("../../include/blockplan.h");
 
-/// A picture to measure on, with its evidence and its lists, and the acts.
+/// A picture to measure on, with its evidence, its lists and its sizes, and the acts. The second edition
+/// is not generated.
 struct Case {
     picture: Vec<u8>,
     evidence: Vec<u8>,
     lists: Lists,
+    asked: Option<Asked>,
     acts: [Act; 3],
 }
 
@@ -44,12 +51,13 @@ struct Act {
 impl Case {
     fn of(picture: &Picture) -> Case {
         let lists = lists_of(picture);
+        let asked = (picture.edition == FIRST).then(|| Asked::of(picture));
         let acts = acts_on(picture);
         let picture = pack(picture);
         let mut evidence = vec![0; MAX_EVIDENCE_BYTES];
         let length = peer::choose(&picture, &mut evidence).expect("the cases are accepted");
         evidence.truncate(length);
-        let case = Case { picture, evidence, lists, acts };
+        let case = Case { picture, evidence, lists, asked, acts };
         case.must_agree();
         case
     }
@@ -67,47 +75,60 @@ impl Case {
             && picture == self.picture
             && self.acts.iter().all(Act::agrees);
         if !agrees {
-            eprintln!("bench: archive and peer differ; run compare");
-            exit(1);
+            differ();
+        }
+        if let Some(asked) = &self.asked {
+            generated(SEED, asked);
         }
     }
 
-    fn choose(&self, repetitions: usize) -> Medians {
+    fn choose(&self, effort: Effort) -> Times {
         let mut buffers = [self.evidence.clone(), self.evidence.clone()];
         let [archive_buffer, peer_buffer] = &mut buffers;
-        medians(
-            repetitions,
+        Times::of(
+            effort,
             || archive::choose(black_box(&self.picture), archive_buffer),
             || peer::choose(black_box(&self.picture), peer_buffer),
         )
     }
 
-    fn check(&self, repetitions: usize) -> Medians {
-        medians(
-            repetitions,
+    fn check(&self, effort: Effort) -> Times {
+        Times::of(
+            effort,
             || archive::check(black_box(&self.picture), black_box(&self.evidence)),
             || peer::check(black_box(&self.picture), black_box(&self.evidence)),
         )
     }
 
-    fn write(&self, repetitions: usize) -> Medians {
+    fn write(&self, effort: Effort) -> Times {
         let mut pictures = [self.picture.clone(), self.picture.clone()];
         let [archive_picture, peer_picture] = &mut pictures;
-        medians(
-            repetitions,
+        Times::of(
+            effort,
             || archive::write(black_box(&self.lists), archive_picture),
             || peer::write(black_box(&self.lists), peer_picture),
+        )
+    }
+
+    /// A picture of the same sizes.
+    fn generate(&self, asked: &Asked, effort: Effort) -> Times {
+        let mut pictures = [self.picture.clone(), self.picture.clone()];
+        let [archive_picture, peer_picture] = &mut pictures;
+        Times::of(
+            effort,
+            || archive::generate(black_box(SEED), black_box(asked), archive_picture),
+            || peer::generate(black_box(SEED), black_box(asked), peer_picture),
         )
     }
 }
 
 impl Act {
     /// Each call on the picture as it was: copying it counts, for both.
-    fn times(&self, repetitions: usize) -> Medians {
+    fn times(&self, effort: Effort) -> Times {
         let mut pictures = [self.picture.clone(), self.picture.clone()];
         let [archive_picture, peer_picture] = &mut pictures;
-        medians(
-            repetitions,
+        Times::of(
+            effort,
             || {
                 archive_picture.copy_from_slice(black_box(&self.picture));
                 (self.archive)(archive_picture, self.block)
@@ -156,63 +177,21 @@ fn acts_on(picture: &Picture) -> [Act; 3] {
     ]
 }
 
-/// Microseconds a call: of the archive and of the peer.
-#[derive(Clone, Copy)]
-struct Medians {
-    archive: f64,
-    peer: f64,
-}
-
-/// Both calls warmed up, then measured in turn, with the first of the two alternating.
-fn medians<A, P>(
-    repetitions: usize,
-    mut archive: impl FnMut() -> A,
-    mut peer: impl FnMut() -> P,
-) -> Medians {
-    let archive_batch = batch(&mut archive);
-    let peer_batch = batch(&mut peer);
-    let mut archive_times = Vec::with_capacity(repetitions);
-    let mut peer_times = Vec::with_capacity(repetitions);
-    for repetition in 0..repetitions {
-        if repetition % 2 == 0 {
-            archive_times.push(time(&mut archive, archive_batch));
-            peer_times.push(time(&mut peer, peer_batch));
-        } else {
-            peer_times.push(time(&mut peer, peer_batch));
-            archive_times.push(time(&mut archive, archive_batch));
-        }
+/// The picture that both generate from a seed; the archive must make the same bytes as the peer.
+fn generated(seed: u64, asked: &Asked) -> Vec<u8> {
+    let [mut archive_picture, mut picture] = [vec![0; MAX_PICTURE_BYTES], vec![0; MAX_PICTURE_BYTES]];
+    let answer = archive::generate(seed, asked, &mut archive_picture);
+    let length = peer::generate(seed, asked, &mut picture).expect("sizes within the limits");
+    if answer != length as i32 || archive_picture != picture {
+        differ();
     }
-    Medians { archive: median(archive_times), peer: median(peer_times) }
+    picture.truncate(length);
+    picture
 }
 
-/// How many calls fill the least time; finding it is the warm-up.
-fn batch<T>(call: &mut impl FnMut() -> T) -> u32 {
-    let mut calls = 1;
-    while repeat(call, calls) < LEAST_TIME {
-        calls *= 2;
-    }
-    calls
-}
-
-fn time<T>(call: &mut impl FnMut() -> T, calls: u32) -> f64 {
-    repeat(call, calls).as_secs_f64() * 1e6 / f64::from(calls)
-}
-
-fn repeat<T>(call: &mut impl FnMut() -> T, calls: u32) -> Duration {
-    let start = Instant::now();
-    for _ in 0..calls {
-        black_box(call());
-    }
-    start.elapsed()
-}
-
-fn median(mut times: Vec<f64>) -> f64 {
-    times.sort_by(f64::total_cmp);
-    let middle = times.len() / 2;
-    match times.len() % 2 {
-        0 => (times[middle - 1] + times[middle]) / 2.0,
-        _ => times[middle],
-    }
+fn differ() -> ! {
+    eprintln!("bench: archive and peer differ; run compare");
+    exit(1)
 }
 
 fn dense(size: Size) -> Picture {
@@ -237,22 +216,25 @@ fn cases() -> Vec<(&'static str, Picture)> {
     ]
 }
 
-fn print_times(repetitions: usize) {
-    println!("time a call in microseconds, median of {repetitions}");
+fn print_times(effort: Effort) {
+    println!("time a call in microseconds, median of {}", effort.measurements);
     println!("{:<36}{:<8}{:>12}{:>12}{:>14}", "case", "call", "archive", "peer", "archive/peer");
     for (name, picture) in cases() {
         let case = Case::of(&picture);
         let [evict, reload, free] = &case.acts;
-        let rows = [
-            ("choose", case.choose(repetitions)),
-            ("check", case.check(repetitions)),
-            ("evict", evict.times(repetitions)),
-            ("reload", reload.times(repetitions)),
-            ("free", free.times(repetitions)),
-            ("write", case.write(repetitions)),
+        let mut rows = vec![
+            ("choose", case.choose(effort)),
+            ("check", case.check(effort)),
+            ("evict", evict.times(effort)),
+            ("reload", reload.times(effort)),
+            ("free", free.times(effort)),
+            ("write", case.write(effort)),
         ];
-        for (call, medians) in rows {
-            let Medians { archive, peer } = medians;
+        if let Some(asked) = &case.asked {
+            rows.push(("generate", case.generate(asked, effort)));
+        }
+        for (call, times) in rows {
+            let Both { archive, peer } = times.medians();
             println!("{name:<36}{call:<8}{archive:>12.2}{peer:>12.2}{:>14.2}", archive / peer);
         }
     }
@@ -271,8 +253,7 @@ fn series() -> Vec<Series> {
     ]
 }
 
-fn print_growth(repetitions: usize) {
-    println!();
+fn print_growth(effort: Effort) {
     println!("growth of the archive's times as sizes double (edition 1, D 100, dense, all held, near, reached)");
     println!(
         "{:<20}{:>6}{:>6}{:>6}{:>6}{:>14}{:>10}{:>14}{:>10}",
@@ -282,7 +263,7 @@ fn print_growth(repetitions: usize) {
         let mut last = None;
         for (slots, block_size, links, serving) in sizes {
             let case = Case::of(&dense(first(slots, block_size, 100, links, serving)));
-            let (choose, check) = (case.choose(repetitions), case.check(repetitions));
+            let (choose, check) = (case.choose(effort).medians(), case.check(effort).medians());
             let choose_growth = growth(last.map(|(choose, _)| choose), choose);
             let check_growth = growth(last.map(|(_, check)| check), check);
             println!(
@@ -294,7 +275,7 @@ fn print_growth(repetitions: usize) {
     }
 }
 
-fn growth(before: Option<Medians>, now: Medians) -> String {
+fn growth(before: Option<Both>, now: Both) -> String {
     match before {
         None => "-".to_string(),
         Some(before) => format!("{:.2}", now.archive / before.archive),
@@ -302,12 +283,12 @@ fn growth(before: Option<Medians>, now: Medians) -> String {
 }
 
 /// The calls are lent buffers that are long enough for every picture, as a terminal lends them.
-fn peaks(picture: &Picture) -> [usize; 6] {
+fn peaks(picture: &Picture) -> ([usize; 6], Option<usize>) {
     let case = Case::of(picture);
     let [evict, reload, free] = &case.acts;
     let mut evidence = vec![0; MAX_EVIDENCE_BYTES];
     let mut written = vec![0; MAX_PICTURE_BYTES];
-    [
+    let peaks = [
         stack::peak(&mut || {
             archive::choose(&case.picture, &mut evidence);
         }),
@@ -320,22 +301,29 @@ fn peaks(picture: &Picture) -> [usize; 6] {
         stack::peak(&mut || {
             archive::write(&case.lists, &mut written);
         }),
-    ]
+    ];
+    let generate = case.asked.map(|asked| {
+        stack::peak(&mut || {
+            archive::generate(SEED, &asked, &mut written);
+        })
+    });
+    (peaks, generate)
 }
 
 /// Prints the peaks and gives the largest.
 fn print_stack() -> usize {
     println!("peak stack of the archive's calls in bytes (upper estimates: a page of 4096 is added)");
     println!(
-        "{:<36}{:>10}{:>10}{:>10}{:>10}{:>10}{:>10}",
-        "case", "choose", "check", "evict", "reload", "free", "write"
+        "{:<36}{:>10}{:>10}{:>10}{:>10}{:>10}{:>10}{:>10}",
+        "case", "choose", "check", "evict", "reload", "free", "write", "generate"
     );
     let mut most = 0;
     for (name, picture) in cases() {
-        let peaks = peaks(&picture);
+        let (peaks, generate) = peaks(&picture);
         let [choose, check, evict, reload, free, write] = peaks;
-        println!("{name:<36}{choose:>10}{check:>10}{evict:>10}{reload:>10}{free:>10}{write:>10}");
-        most = peaks.into_iter().fold(most, usize::max);
+        print!("{name:<36}{choose:>10}{check:>10}{evict:>10}{reload:>10}{free:>10}{write:>10}");
+        println!("{:>10}", generate.map_or("-".to_string(), |bytes| bytes.to_string()));
+        most = peaks.into_iter().chain(generate).fold(most, usize::max);
     }
     most
 }
@@ -349,17 +337,22 @@ fn main() {
     let arguments: Vec<String> = env::args().skip(1).collect();
     let repetitions = match arguments.as_slice() {
         [] => DEFAULT_REPETITIONS,
+        [word] if word == "load" => return print_load(),
         [word] if word == "stack" => exit(i32::from(print_stack() > stack_limit())),
         [text] => text.parse().ok().filter(|repetitions| *repetitions > 0).unwrap_or_else(|| usage()),
         _ => usage(),
     };
-    print_times(repetitions);
-    print_growth(repetitions);
+    let effort = Effort { measurements: repetitions, least_time: LEAST_TIME };
+    print_times(effort);
+    println!();
+    print_growth(effort);
+    println!();
+    print_load();
     println!();
     print_stack();
 }
 
 fn usage() -> ! {
-    eprintln!("usage: bench [REPETITIONS, at least 1], or bench stack");
+    eprintln!("usage: bench [REPETITIONS, at least 1], bench load, or bench stack");
     exit(2)
 }

@@ -4,6 +4,7 @@
 // The one module of the library that calls foreign code.
 #![allow(unsafe_code)]
 
+use crate::generate::Asked;
 use crate::lists::Lists;
 
 mod calls {
@@ -39,6 +40,16 @@ mod calls {
             link_count: usize,
             service_links: *const [u16; 2],
             service_link_count: usize,
+            picture: *mut u8,
+            picture_len: usize,
+        ) -> i32;
+        pub fn blockplan_generate(
+            seed: u64,
+            block_size: u32,
+            blocks: u32,
+            endpoints: u32,
+            links: u32,
+            service_links: u32,
             picture: *mut u8,
             picture_len: usize,
         ) -> i32;
@@ -89,6 +100,21 @@ pub fn write(lists: &Lists, picture: &mut [u8]) -> i32 {
             lists.links.len(),
             lists.serving.as_ptr(),
             lists.serving.len(),
+            picture.as_mut_ptr(),
+            picture.len(),
+        )
+    }
+}
+
+pub fn generate(seed: u64, asked: &Asked, picture: &mut [u8]) -> i32 {
+    unsafe {
+        calls::blockplan_generate(
+            seed,
+            asked.block_size,
+            asked.blocks,
+            asked.endpoints,
+            asked.links,
+            asked.serving,
             picture.as_mut_ptr(),
             picture.len(),
         )

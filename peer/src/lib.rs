@@ -12,9 +12,11 @@ pub mod bits;
 pub mod check;
 pub mod choice;
 pub mod edition;
+pub mod generate;
 pub mod listing;
 pub mod lists;
 pub mod picture;
+pub mod random;
 pub mod reach;
 pub mod refusals;
 
@@ -25,19 +27,21 @@ pub mod archive;
 pub mod faults;
 pub mod foreign;
 pub mod networks;
-pub mod random;
 pub mod samples;
 
 pub use acts::{evict, free, reload};
 pub use check::{check, show};
 pub use choice::{choose, weigh};
 pub use edition::Edition;
+pub use generate::{generate, Asked};
 pub use listing::listing;
 pub use lists::{lists_of, write, Lists};
 pub use picture::{pack, read, Picture};
 
 #[cfg(test)]
 mod edition_tests;
+#[cfg(test)]
+mod generate_tests;
 #[cfg(test)]
 mod link_tests;
 #[cfg(test)]

@@ -1,7 +1,7 @@
 //! The lists of a network, as a layout editor has them: written as a picture, and had from one.
 
 use crate::edition::Edition;
-use crate::picture::{pack, Endpoint, Header, Picture, Slot, State};
+use crate::picture::{pack_into, Endpoint, Header, Picture, Slot, State};
 use crate::refusals;
 
 /// The number of the edition to write, the four lists and the two sizes that no list tells. Slots
@@ -71,10 +71,7 @@ fn rows<T>(links: &[[u16; 2]], link: impl Fn(u16, u16) -> Result<T, u8>) -> Resu
 /// Writes the picture of the lists into the buffer's first bytes and gives its length, or tells the
 /// first fault and leaves the buffer as it is.
 pub fn write(lists: &Lists, buffer: &mut [u8]) -> Result<usize, u8> {
-    let bytes = pack(&lists.picture()?);
-    let room = buffer.get_mut(..bytes.len()).ok_or(refusals::BUFFER)?;
-    room.copy_from_slice(&bytes);
-    Ok(bytes.len())
+    pack_into(&lists.picture()?, buffer)
 }
 
 /// The lists that a picture tells, and its own edition.

@@ -258,3 +258,12 @@ pub fn pack(picture: &Picture) -> Vec<u8> {
     }
     fields.into_bytes()
 }
+
+/// Packs a picture that keeps the limits into the buffer's first bytes and gives its length, or leaves a
+/// buffer that is shorter as it is.
+pub fn pack_into(picture: &Picture, buffer: &mut [u8]) -> Result<usize, u8> {
+    let bytes = pack(picture);
+    let room = buffer.get_mut(..bytes.len()).ok_or(refusals::BUFFER)?;
+    room.copy_from_slice(&bytes);
+    Ok(bytes.len())
+}

@@ -1,4 +1,5 @@
-//! A small random generator (SplitMix64), so that every run can be repeated from its seed.
+//! A small random generator (SplitMix64), so that every run can be repeated from its seed. Generated
+//! pictures take their fields from its draws, by the same seed.
 
 pub struct Random {
     state: u64,

@@ -4,6 +4,7 @@ use mathlib.Core.Bool.{true, false}
 use mathlib.Core.List.{List, [], _∷_, _++_}
 use Prim.Native.Nat.{ℕ, _*_, _/_, _%_}
 use lib.ListN.{set, take, drop, replicate}
+use Rattle.picture.specs.declared.Header.{Header}
 use Rattle.picture.specs.Answers.{reading, readingNumbers}
 use Rattle.weigh.specs.Weighing.{weighing, weighingNumbers}
 use Rattle.evidence.specs.Canonical.{evidenceOf}
@@ -15,6 +16,9 @@ use Rattle.acts.specs.declared.Act.the-variants.{Evict, Reload, Free}
 use Rattle.acts.specs.Answers.{acting, actBytes, actingNumbers}
 use Rattle.write.specs.Columns.{Lists, handed, listsIn}
 use Rattle.write.specs.Answers.{writing, writingNumbers, writtenBytes}
+use Rattle.generator.specs.Draws.{draw}
+use Rattle.generator.specs.Generated.{askedHeader}
+use Rattle.generator.specs.Answers.{generating, generatedBytes}
 use Rattle.listing.specs.Listing.{listing}
 use Rattle.examples.specs.Cases.{evidenceA, listsWith, listsA, caseA, caseB, caseC, caseD, caseE, caseF, caseG, caseH, caseI, caseJ, caseK, caseM, caseFewer, caseZero, caseEqual, caseWide, caseSecond, evidenceSecond, caseFar, evidenceFar, linesA, linesFar}
 
@@ -36,6 +40,10 @@ pub data Question : Type 0 where
   act : Act → List ℕ → ℕ → Question
   -- what writing lists answers with a buffer, and the buffer at exit
   write : Lists → List ℕ → Question
+  -- draw k of a seed, counted from 1
+  drawn : ℕ → ℕ → Question
+  -- what generating answers for a seed, the header that is asked for and a buffer, and the buffer at exit
+  generate : ℕ → Header → List ℕ → Question
 
 -- what the definitions answer
 unfoldable pub answer : Question → List ℕ
@@ -47,6 +55,8 @@ answer (show bs ev) = shown bs ev
 answer (list bs) = listing bs
 answer (act a bs b) = actingNumbers (acting a bs b) ++ actBytes a bs b
 answer (write l buf) = writingNumbers (writing l buf) ++ writtenBytes l buf
+answer (drawn seed k) = draw seed k ∷ []
+answer (generate seed h buf) = writingNumbers (generating h buf) ++ generatedBytes seed h buf
 
 -- a question, and what document 01 says
 pub record Row : Type 0 where
@@ -87,6 +97,11 @@ oneSlot edition limit = handed edition 1 limit (0 ∷ []) (true ∷ []) [] [] []
 -- lists of which nothing is right: β 0, κ 65535, a state without its mark, a weight without its mark, and links to what is not there
 unfoldable pub allWrong : ℕ → Lists
 allWrong edition = handed edition 0 0xFFFF (3 ∷ []) [] (5 ∷ []) [] ((9 ∷ 9 ∷ []) ∷ []) ((9 ∷ 9 ∷ []) ∷ [])
+
+-- A's sizes filled from seed 1: states 2, 0, 0, 0, three slots near, weights 15784 and 20321, and so on
+unfoldable pub drawnA : List ℕ
+drawnA =
+    0x12 ∷ 0x04 ∷ 0x04 ∷ 0x02 ∷ 0x00 ∷ 0x40 ∷ 0x03 ∷ 0xA4 ∷ 0x13 ∷ 0xDA ∷ 0x82 ∷ 0x7B ∷ 0x08 ∷ 0x10 ∷ 0x08 ∷ 0x04 ∷ 0x10 ∷ 0x00 ∷ 0x04 ∷ 0x10 ∷ 0x08 ∷ 0x04 ∷ 0x04 ∷ 0x00 ∷ 0x04 ∷ 0x0C ∷ 0x08 ∷ []
 
 unfoldable pub table : List Row
 table =
@@ -401,4 +416,36 @@ table =
     ∷ record { question = write (allWrong 258) []; says = 2 ∷ [] }
     ∷ record { question = write (allWrong 1) []; says = 3 ∷ [] }
     ∷ record { question = write (allWrong 2) []; says = 3 ∷ [] }
+    -- draws of SplitMix64 (02, C-13): the first five of a seed, and the last that the largest picture takes
+    ∷ record { question = drawn 1234567 1; says = 6457827717110365317 ∷ [] }
+    ∷ record { question = drawn 1234567 2; says = 3203168211198807973 ∷ [] }
+    ∷ record { question = drawn 1234567 3; says = 9817491932198370423 ∷ [] }
+    ∷ record { question = drawn 1234567 4; says = 4593380528125082431 ∷ [] }
+    ∷ record { question = drawn 1234567 5; says = 16408922859458223821 ∷ [] }
+    ∷ record { question = drawn 1234567 8880; says = 7266125905760604739 ∷ [] }
+    -- generate: A's sizes from seed 1, which is read with κ 4; more bytes stay, and a buffer that is a byte short is as it was
+    ∷ record { question = generate 1 (askedHeader 2 2 2 4 3) (replicate 27 0xFF); says = 0 ∷ 27 ∷ drawnA }
+    ∷ record { question = read drawnA; says = 0 ∷ 1 ∷ 2 ∷ 4 ∷ 4 ∷ 2 ∷ 4 ∷ 3 ∷ [] }
+    ∷ record { question = generate 1 (askedHeader 2 2 2 4 3) (replicate 30 0xEE); says = 0 ∷ 27 ∷ (drawnA ++ replicate 3 0xEE) }
+    ∷ record { question = generate 1 (askedHeader 2 2 2 4 3) (replicate 26 0xEE); says = 9 ∷ replicate 26 0xEE }
+    -- the least of all, from seed 0; β 15, from the largest seed; 60 blocks, with one endpoint
+    ∷ record { question = generate 0 (askedHeader 1 1 0 0 0) (replicate 8 0xFF); says = 0 ∷ 8 ∷ 0x11 ∷ 0x01 ∷ 0x01 ∷ 0x00 ∷ 0x00 ∷ 0x00 ∷ 0x00 ∷ 0x40 ∷ [] }
+    ∷ record { question = generate 18446744073709551615 (askedHeader 15 1 0 0 0) (replicate 13 0xFF); says = 0 ∷ 13 ∷ 0x1F ∷ 0x0F ∷ 0x0F ∷ 0x00 ∷ 0x00 ∷ 0x00 ∷ 0x00 ∷ 0xA8 ∷ 0xA0 ∷ 0xD2 ∷ 0x44 ∷ 0x81 ∷ 0x68 ∷ [] }
+    ∷ record { question = generate 7 (askedHeader 1 60 1 0 0) (replicate 32 0xFF); says = 0 ∷ 32 ∷ 0x11 ∷ 0x3C ∷ 0x3C ∷ 0x01 ∷ 0x00 ∷ 0x00 ∷ 0x00 ∷ 0x05 ∷ 0xAA ∷ 0x80 ∷ 0x71 ∷ 0xDA ∷ 0x4A ∷ 0x06 ∷ 0xB6 ∷ 0x80 ∷ 0x02 ∷ 0x33 ∷ 0x02 ∷ 0x25 ∷ 0x36 ∷ 0x43 ∷ 0x90 ∷ 0x93 ∷ 0x44 ∷ 0x15 ∷ 0x90 ∷ 0xD2 ∷ 0xA6 ∷ 0x39 ∷ 0x59 ∷ 0xC8 ∷ [] }
+    -- β 0 and 16, 0 blocks and 61, n 255 (3); D 201, L 2001, S 2001, and S 1 with D 0 (4); 3 before 4, and both before a short buffer
+    ∷ record { question = generate 1 (askedHeader 0 1 0 0 0) (replicate 9 0xEE); says = 3 ∷ replicate 9 0xEE }
+    ∷ record { question = generate 1 (askedHeader 16 1 0 0 0) (replicate 9 0xEE); says = 3 ∷ replicate 9 0xEE }
+    ∷ record { question = generate 1 (askedHeader 1 0 0 0 0) (replicate 9 0xEE); says = 3 ∷ replicate 9 0xEE }
+    ∷ record { question = generate 1 (askedHeader 1 61 0 0 0) (replicate 9 0xEE); says = 3 ∷ replicate 9 0xEE }
+    ∷ record { question = generate 1 (askedHeader 15 17 0 0 0) (replicate 9 0xEE); says = 3 ∷ replicate 9 0xEE }
+    ∷ record { question = generate 1 (askedHeader 1 1 201 0 0) (replicate 9 0xEE); says = 4 ∷ replicate 9 0xEE }
+    ∷ record { question = generate 1 (askedHeader 1 1 0 2001 0) (replicate 9 0xEE); says = 4 ∷ replicate 9 0xEE }
+    ∷ record { question = generate 1 (askedHeader 1 1 1 0 2001) (replicate 9 0xEE); says = 4 ∷ replicate 9 0xEE }
+    ∷ record { question = generate 1 (askedHeader 1 1 0 0 1) (replicate 9 0xEE); says = 4 ∷ replicate 9 0xEE }
+    ∷ record { question = generate 1 (askedHeader 0 1 201 0 0) []; says = 3 ∷ [] }
+    ∷ record { question = generate 1 (askedHeader 1 1 0 0 1) []; says = 4 ∷ [] }
+    ∷ record { question = generate 1 (askedHeader 1 1 0 0 0) []; says = 9 ∷ [] }
+    -- the largest numbers
+    ∷ record { question = generate 18446744073709551615 (askedHeader 4294967295 4294967295 4294967295 4294967295 4294967295) (replicate 9 0xEE); says = 3 ∷ replicate 9 0xEE }
+    ∷ record { question = generate 18446744073709551615 (askedHeader 15 16 4294967295 4294967295 4294967295) (replicate 9 0xEE); says = 4 ∷ replicate 9 0xEE }
     ∷ []

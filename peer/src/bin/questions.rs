@@ -7,14 +7,14 @@ use std::fmt::Display;
 use std::process::exit;
 
 use peer::choice::{Plan, Section};
-use peer::edition::{EDITIONS, MAX_BLOCK_SIZE};
+use peer::edition::{EDITIONS, FIRST, MAX_BLOCK_SIZE, MAX_ENDPOINTS, MAX_LINKS};
 use peer::faults::{wrong_ends, FAULTS};
 use peer::foreign::{self, GROWTHS};
 use peer::networks::{any_edition, network, tied, Size, SHAPES};
 use peer::picture::Picture;
 use peer::random::Random;
-use peer::{check, choose, evict, free, pack, reload, show, weigh};
-use peer::{lists_of, samples, write, Lists};
+use peer::{check, choose, evict, free, generate, pack, reload, show, weigh};
+use peer::{lists_of, samples, write, Asked, Lists};
 
 const DEFAULT_SEED: u64 = 77;
 /// Networks of each shape; in the last of them a bit is turned over.
@@ -25,6 +25,10 @@ const WIDE: usize = 4;
 const WRITTEN: usize = 3;
 /// Random networks in which candidates lose equal weight.
 const TIES: usize = 4;
+/// Draws of a seed of chance.
+const DRAWS: usize = 12;
+/// Small networks that are generated.
+const GENERATED: usize = 3;
 /// Longer than evidence and picture of a small network, and what the buffer holds before.
 const ROOM: usize = 500;
 const BEFORE: u8 = 0xEE;
@@ -37,9 +41,8 @@ struct Table {
 }
 
 impl Table {
-    fn add(&mut self, question: String, answer: &[u32]) {
-        let says: String = answer.iter().map(|number| format!("{number} ∷ ")).collect();
-        self.rows.push(format!("record {{ question = {question}; says = {says}[] }}"));
+    fn add<T: Display>(&mut self, question: String, answer: &[T]) {
+        self.rows.push(format!("record {{ question = {question}; says = {} }}", items(answer)));
     }
 
     /// A refusal is its number alone, an answer 0 and what is told.
@@ -283,6 +286,12 @@ fn ask_lists(table: &mut Table, random: &mut Random) {
     }
 }
 
+fn ask_written(table: &mut Table, random: &mut Random) {
+    for _ in 0..WRITTEN {
+        ask_lists(table, random);
+    }
+}
+
 /// Block sizes and numbers of slots that a picture may have and may not.
 fn ask_blocks(table: &mut Table, random: &mut Random) {
     for edition in EDITIONS {
@@ -337,6 +346,94 @@ fn ask_links(table: &mut Table, random: &mut Random) {
     }
 }
 
+/// A draw by its seed and its number, counted from 1.
+fn ask_draw(table: &mut Table, seed: u64, number: usize) {
+    let mut random = Random::new(seed);
+    let last = (0..number).map(|_| random.draw()).last().expect("draws are counted from 1");
+    table.add(format!("drawn {seed} {number}"), &[last]);
+}
+
+/// First draws, also of seeds at the ends of 64 bits, and draws as far on as the longest picture takes
+/// them.
+fn ask_draws(table: &mut Table, random: &mut Random) {
+    const MOST: usize = 2 * (FIRST.max_slots + MAX_ENDPOINTS + 2 * MAX_LINKS);
+    for seed in [0, u64::MAX] {
+        ask_draw(table, seed, 1);
+    }
+    for round in 0..DRAWS {
+        let most = if round % 2 == 0 { 9 } else { MOST };
+        let (seed, number) = (random.draw(), random.between(1, most));
+        ask_draw(table, seed, number);
+    }
+}
+
+/// The header that the sizes ask for, in the order of the arguments.
+fn header(asked: &Asked) -> String {
+    let Asked { block_size, blocks, endpoints, links, serving } = asked;
+    format!("(askedHeader {block_size} {blocks} {endpoints} {links} {serving})")
+}
+
+fn ask_generate(table: &mut Table, seed: u64, asked: &Asked, mut lent: Vec<u8>) {
+    let question = format!("generate {seed} {} {}", header(asked), list(&lent));
+    let answer = generate(seed, asked, &mut lent);
+    table.add_buffer(question, answer, &lent);
+}
+
+/// Small networks with each kind of buffer.
+fn ask_networks(table: &mut Table, random: &mut Random) {
+    for _ in 0..GENERATED {
+        let asked = Asked {
+            block_size: random.between(1, 4) as u32,
+            blocks: random.between(1, 4) as u32,
+            endpoints: random.between(1, 4) as u32,
+            links: random.between(1, 12) as u32,
+            serving: random.between(1, 8) as u32,
+        };
+        let seed = random.draw();
+        let length = generate(seed, &asked, &mut [0; ROOM]).expect("the limits are kept");
+        ask_generate(table, seed, &asked, vec![0; length - 1]);
+        for room in [length, length + random.between(1, 9)] {
+            let lent = (0..room).map(|_| random.byte()).collect();
+            ask_generate(table, seed, &asked, lent);
+        }
+    }
+}
+
+/// Sizes at the limits and beyond them, with a few bytes that are 0: those that no picture has, and
+/// those for which the buffer alone is too short.
+fn ask_sizes(table: &mut Table, random: &mut Random) {
+    for (block_size, blocks, endpoints, links, serving) in [
+        (0, 4, 2, 3, 3),
+        (16, 4, 2, 3, 3),
+        (2, 0, 2, 3, 3),
+        (1, 61, 2, 3, 3),
+        (15, 17, 201, 3, 3),
+        (65_536, 65_536, 2, 3, 3),
+        (u32::MAX, u32::MAX, u32::MAX, u32::MAX, u32::MAX),
+        (4, 60, 201, 3, 3),
+        (4, 60, 2, 2001, 3),
+        (4, 60, 2, 3, 2001),
+        (2, 2, 0, 3, 1),
+        (4, 60, 200, 2000, 2000),
+        (15, 16, 0, 2000, 0),
+    ] {
+        let asked = Asked { block_size, blocks, endpoints, links, serving };
+        let (seed, room) = (random.draw(), random.between(0, 9));
+        ask_generate(table, seed, &asked, vec![0; room]);
+    }
+}
+
+type Ask = fn(&mut Table, &mut Random);
+
+/// What questions are about, in their order in the table.
+const KINDS: [(&str, &[Ask]); 5] = [
+    ("pictures", &[ask_pictures, ask_wide, ask_second]),
+    ("lists", &[ask_written, ask_blocks, ask_editions]),
+    ("ties", &[ask_ties]),
+    ("links", &[ask_links]),
+    ("seeds", &[ask_draws, ask_networks, ask_sizes]),
+];
+
 fn main() {
     let arguments: Vec<String> = env::args().skip(1).collect();
     let seed = match arguments.as_slice() {
@@ -350,23 +447,10 @@ fn main() {
     };
     let mut random = Random::new(seed);
     let mut table = Table { rows: Vec::new() };
-    ask_pictures(&mut table, &mut random);
-    ask_wide(&mut table, &mut random);
-    ask_second(&mut table, &mut random);
-    let asked = table.rows.len();
-    for _ in 0..WRITTEN {
-        ask_lists(&mut table, &mut random);
+    for (about, kind) in KINDS {
+        let before = table.rows.len();
+        kind.iter().for_each(|ask| ask(&mut table, &mut random));
+        eprintln!("questions: {} about {about}", table.rows.len() - before);
     }
-    ask_blocks(&mut table, &mut random);
-    ask_editions(&mut table, &mut random);
-    let written = table.rows.len() - asked;
-    ask_ties(&mut table, &mut random);
-    let ties = table.rows.len() - asked - written;
-    ask_links(&mut table, &mut random);
-    let links = table.rows.len() - asked - written - ties;
-    eprintln!(
-        "questions: {asked} of {} pictures, {written} of lists, {ties} of ties, {links} of links",
-        ROUNDS * SHAPES.len() + 1 + WIDE + 1
-    );
     println!("unfoldable pub table : List Row\ntable =\n    {}\n    ∷ []", table.rows.join("\n    ∷ "));
 }

@@ -5,7 +5,7 @@ use std::ops::Range;
 use std::process::exit;
 
 use super::watch::{hexadecimal, install, watched, Call};
-use peer::{archive, Lists};
+use peer::{archive, Asked, Lists};
 
 /// Guard bytes before and behind each buffer.
 const GUARD: usize = 256;
@@ -151,6 +151,17 @@ impl Comparison {
         self.judge(&call, archive, &[&buffers])
     }
 
+    /// Leaves the buffer as the call does.
+    pub fn generate(&mut self, seed: u64, asked: &Asked, buffer: &mut [u8]) -> i32 {
+        let mut buffers = Pair::new("picture", buffer, self.shift());
+        let peer = length_answer(peer::generate(seed, asked, buffers.peer.get_mut()));
+        let inputs = sizes(seed, asked);
+        let call = Call { name: "generate", inputs, number: ("buffer length", buffer.len()), peer };
+        let archive = watched(&call, || archive::generate(seed, asked, buffers.archive.get_mut()));
+        buffer.copy_from_slice(buffers.peer.get());
+        self.judge(&call, archive, &[&buffers])
+    }
+
     /// The two agree, but on an answer that the input is not built for.
     pub fn expect(&self, what: &str, answer: i32, due: i32) {
         if answer != due {
@@ -193,6 +204,18 @@ fn columns(lists: &Lists) -> Vec<(&'static str, Vec<u8>)> {
         ("protected", marks(&lists.protected)),
         ("links", pairs(&lists.links)),
         ("serving links", pairs(&lists.serving)),
+    ]
+}
+
+/// What generate is handed, to be printed, with the high byte first.
+fn sizes(seed: u64, asked: &Asked) -> Vec<(&'static str, Vec<u8>)> {
+    vec![
+        ("seed", seed.to_be_bytes().to_vec()),
+        ("block size", asked.block_size.to_be_bytes().to_vec()),
+        ("blocks", asked.blocks.to_be_bytes().to_vec()),
+        ("endpoints", asked.endpoints.to_be_bytes().to_vec()),
+        ("links", asked.links.to_be_bytes().to_vec()),
+        ("serving links", asked.serving.to_be_bytes().to_vec()),
     ]
 }
 

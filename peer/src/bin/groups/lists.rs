@@ -8,6 +8,7 @@ use peer::random::Random;
 use peer::{lists_of, pack, read, refusals, samples, Edition, Lists};
 
 use super::harness::Comparison;
+use super::old_bytes;
 use super::raw::{Header, Raw};
 
 /// Longer than any picture.
@@ -25,11 +26,6 @@ fn due(lists: &Lists) -> usize {
 /// Any near limit that the header has room for.
 fn near_limit(random: &mut Random, edition: Edition) -> u16 {
     random.draw() as u16 & edition.max_near_limit()
-}
-
-/// A buffer with old bytes of chance, so that a bit which is not written shows.
-fn old_bytes(random: &mut Random, room: usize) -> Vec<u8> {
-    (0..room).map(|_| random.byte()).collect()
 }
 
 /// Write with every kind of buffer.

@@ -3,6 +3,7 @@
 mod acts;
 mod evidence;
 mod forests;
+mod generate;
 pub mod harness;
 mod lists;
 mod networks;
@@ -23,7 +24,7 @@ const ROOM: usize = MAX_EVIDENCE_BYTES + 11;
 
 type Group = fn(&mut Comparison, &mut Random, usize);
 
-pub const ALL: [(&str, Group); 37] = [
+pub const ALL: [(&str, Group); 40] = [
     ("truncations of the samples", pictures::truncations),
     ("bit flips of the samples", pictures::bit_flips),
     ("wrong ends of links", pictures::wrong_ends),
@@ -61,6 +62,9 @@ pub const ALL: [(&str, Group); 37] = [
     ("lists: each value", lists::values),
     ("lists: several faults", lists::damaged),
     ("lists: there and back", lists::there_and_back),
+    ("generate: networks", generate::networks),
+    ("generate: limits and one more", generate::limits),
+    ("generate: several faults", generate::several),
 ];
 
 /// A network of any shape, mostly a small one: once in `of` rounds one of any size and, half way
@@ -73,6 +77,11 @@ fn any_network(random: &mut Random, round: usize, of: usize) -> Picture {
         _ => Size::small(random),
     };
     network(random, shape, size)
+}
+
+/// A buffer with old bytes of chance, so that a bit which is not written shows.
+fn old_bytes(random: &mut Random, room: usize) -> Vec<u8> {
+    (0..room).map(|_| random.byte()).collect()
 }
 
 /// The canonical evidence, or nothing if the picture is refused.
