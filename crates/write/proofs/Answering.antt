@@ -1,14 +1,14 @@
 -- What a call that makes a picture answers and leaves, by its faults and the room in its buffer. Assumes nothing.
 use mathlib.Core.Path.{_≡_, refl, sym, ap, _∙_}
 use mathlib.Core.Logic.{_≢_}
-use mathlib.Core.List.{List, [], _∷_, _++_}
+use mathlib.Core.List.{List, [], _∷_, _++_, head-eq-of-cons-eq}
 use Prim.Native.Nat.{ℕ, _≤_, _<_}
 use native.Mathlib.Omega.{arith}
 use borrow.Author.Tests.{ne-eqb, lt-ltb, le-ltb}
 use lib.Dec.{ltb}
 use lib.ListN.{length, drop}
 use Rattle.lists.specs.Lists.{on, first}
-use Rattle.lists.proofs.Answers.{answer-refused, answer-numbers}
+use Rattle.lists.proofs.Answers.{answer-refused, answer-numbers, outcome-zero}
 use Rattle.lists.proofs.Faults.{first-skip, stop-at, first-in}
 use Rattle.picture.proofs.Finding.{tells, passes}
 use Rattle.write.specs.declared.Writing.{Writing}
@@ -47,3 +47,12 @@ module _ (xs : List ℕ) {size : ℕ} {bs buf : List ℕ} where
       let rest = on (ltb (length buf) size) 9 ∷ [] in
       let none : fault xs size buf ≡ 0 = sym (first-in [] xs rest) ∙ first-skip (first xs) rest z ∙ sym (passes 9 [] (le-ltb (length buf) size s)) in
       told (rw (none, e)) (rw none w)
+
+-- ---- from what is answered
+
+-- a length that is answered is the picture's, and keeps what bounds that
+pub fills-most : {k size m : ℕ} {bs buf : List ℕ} {r : Writing} {out : List ℕ} → Fills k size bs buf r out → (k ≡ 0 → size ≤ m) → (n : ℕ) → r ≡ Length n → n ≤ m
+unfolding writingNumbers
+fills-most {k} f most n e =
+    let t = outcome-zero k (sym (f .numbers) ∙ ap writingNumbers e) in
+    omega (arith, head-eq-of-cons-eq (t .1), most (t .0))

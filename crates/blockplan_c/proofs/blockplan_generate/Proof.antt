@@ -1,12 +1,13 @@
 -- `blockplan_generate` is one call, and answers its number. Assumes nothing.
 use mathlib.Core.Path.{ap, _∙_}
+use native.Mathlib.Omega.{arith}
 use Rattle.write.specs.declared.Writing.{Writing}
 use Rattle.write.specs.Answers.{writingNumbers}
 use Rattle.generator.specs.Answers.{generating, generatedBytes}
 use Rattle.generator.proofs.Reading.{size-most}
+use Rattle.write.proofs.Answering.{fills-most}
 use Rattle.blockplan_c.specs.Answers.{toC}
 use Rattle.blockplan_c.proofs.Numbers.{passed-on}
-use Rattle.blockplan_c.proofs.Lengths.{made-small}
 use borrow.Author.Needs.{needs}
 use Rattle.blockplan_c.proofs.blockplan_generate.Statement.{statement}
 use Rattle.blockplan_c.proofs.blockplan_generate.Tie as tie
@@ -15,7 +16,7 @@ generate-requires : tie.Need-generate-requires
 generate-requires c κs = search needs
 
 writing-number-requires : tie.Need-writing-number-requires
-writing-number-requires c κs = made-small (c .before .before .generate .ensures) (size-most _ _ _ _ _ _)
+writing-number-requires c κs n e = omega (arith, fills-most (c .before .before .generate .ensures) (size-most _ _ _ _ _ _) n e)
 
 same-length : tie.Need-same-length
 same-length c = search needs

@@ -1,0 +1,2 @@
+-- Laws of the program's arguments.
+pub mod Arguments
