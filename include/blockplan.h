@@ -4,7 +4,7 @@
  * A picture is the state of one relay's network as bytes. Evidence says which block was chosen and why. The library is proved: on every input
  * each call ends, reads and writes inside its buffers and lists only, and gives the answer that docs/FORMAT.md fixes. That page has formats, words
  * and numbers in full, with an example byte by byte; it follows the scope document, "01" below. Link with libblockplan_c.a (x86-64, System V
- * calls), which `rt staticlib blockplan_c` makes; besides the six calls it names only memcpy and memset.
+ * calls), which `rt staticlib blockplan_c` makes; besides the seven calls it names only memcpy and memset.
  *
  * WORDS. Location 0 is the origin (01: the office); locations 1 to n are slots, in blocks of so many slots each, counted from 0. Links lead from
  * location to location, service links (01: serving links) from a location to an endpoint (01: a cab). A slot is held, recoverable or freed; near
@@ -91,7 +91,7 @@ extern "C" {
 
 /*
  * The numbers of refusals. Every call judges the picture first (1 to 7, 17 and 18, in the page's order: the picture's numbers); write, which is
- * handed the lists of one, judges these by the same rules in the same order (2 to 6, 17 and 18).
+ * handed the lists of one, judges these by the same rules in the same order (2 to 6, 17 and 18), and generate its sizes (3 and 4).
  */
 enum blockplan_refusal {
     BLOCKPLAN_REFUSED_SHORT = 1,             /* the picture is shorter than its edition's header, or than that says */
@@ -100,12 +100,14 @@ enum blockplan_refusal {
                                                 write: also where states and near bits differ in number, or the near
                                                 limit is too wide for its field */
     BLOCKPLAN_REFUSED_COUNTS = 4,            /* number of endpoints, links or service links out of range;
-                                                write: also where weights and protected bits differ in number */
+                                                write: also where weights and protected bits differ in number;
+                                                generate: also where there are service links and no endpoint */
     BLOCKPLAN_REFUSED_STATE = 5,             /* a slot in state 3; write: in state 3 or above */
     BLOCKPLAN_REFUSED_LINK = 6,              /* an end of a link is above n */
     BLOCKPLAN_REFUSED_FILL = 7,              /* fill bits not zero, or bytes left */
     BLOCKPLAN_REFUSED_NO_BLOCK = 8,          /* the acts: no block of this number */
-    BLOCKPLAN_REFUSED_BUFFER = 9,            /* choose, write: the buffer is under the length of the evidence, or of the picture */
+    BLOCKPLAN_REFUSED_BUFFER = 9,            /* choose, write, generate: the buffer is under the length of the evidence, or of the
+                                                picture */
     BLOCKPLAN_REFUSED_PROTECTED = 10,        /* evict, free: a protected endpoint would be cut */
     BLOCKPLAN_REFUSED_NO_CHANGE = 11,        /* the acts: no slot would change */
     BLOCKPLAN_REFUSED_NEAR = 12,             /* reload: it adds a held near slot, and more than the near limit would be held */
@@ -172,6 +174,22 @@ int32_t blockplan_write(uint32_t edition, uint32_t block_size, uint16_t near_lim
                         const bool *is_near, size_t near_count, const uint16_t *weights, size_t weight_count, const bool *is_protected,
                         size_t protected_count, const uint16_t (*links)[2], size_t link_count, const uint16_t (*service_links)[2],
                         size_t service_link_count, uint8_t *picture, size_t picture_length);
+
+/*
+ * Fills a picture of edition 1 with draws from a seed and returns its length; the bytes beyond stay as they were. The other calls accept the
+ * picture. n is the block size times the number of blocks, and so is the near limit. The same arguments give the same bytes on every machine: a
+ * load that can be repeated, and no network that anyone has. The page says how the draws of SplitMix64 fill the fields.
+ *
+ * Refuses, in this order, with
+ *
+ *   3   where the block size is 0 or above BLOCKPLAN_BLOCK_SIZE_MAX, there is no block or more than BLOCKPLAN_BLOCKS_MAX, or n is above
+ *       BLOCKPLAN_SLOTS_MAX_OF(1)
+ *   4   where there are more endpoints than BLOCKPLAN_ENDPOINTS_MAX, or more links or service links than BLOCKPLAN_LINKS_MAX, or service links
+ *       and no endpoint
+ *   9   where the buffer is shorter than the picture
+ */
+int32_t blockplan_generate(uint64_t seed, uint32_t block_size, uint32_t blocks, uint32_t endpoints, uint32_t links, uint32_t service_links,
+                           uint8_t *picture, size_t picture_length);
 
 #ifdef __cplusplus
 }

@@ -1,7 +1,8 @@
-//! The field examples of document 01, A to K and M, a tie, wide blocks, larger networks and the
-//! longest pictures, in both editions; and some that are refused.
+//! The field examples of document 01, A to K and M, a tie, wide blocks, larger networks, a drawn one and
+//! the longest pictures, in both editions; and some that are refused.
 
-use crate::edition::{FIRST, SECOND};
+use crate::edition::{FIRST, MAX_PICTURE_BYTES, SECOND};
+use crate::generate::{generate, Asked};
 use crate::networks::{dense_held, Size};
 use crate::picture::{pack, Endpoint, Picture, Slot, State};
 use crate::random::Random;
@@ -234,9 +235,17 @@ pub fn small() -> Vec<Picture> {
     examples.chain([tie(), wide(), larger()]).chain(in_second).collect()
 }
 
+/// Six blocks of four slots, 12 endpoints, 40 links and 24 serving links, drawn from seed 1.
+pub fn drawn() -> Vec<u8> {
+    let asked = Asked { block_size: 4, blocks: 6, endpoints: 12, links: 40, serving: 24 };
+    let mut buffer = [0; MAX_PICTURE_BYTES];
+    let length = generate(1, &asked, &mut buffer).expect("sizes that a picture has");
+    buffer[..length].to_vec()
+}
+
 /// The pictures of `examples/` by their file names: the examples, the tie, the wide blocks, the larger
-/// network, the longest picture, those of the second edition, and what is refused: A with a serving
-/// link that names what is not there, and with a byte too many.
+/// network, the longest picture, one that is drawn, those of the second edition, and what is refused: A
+/// with a serving link that names what is not there, and with a byte too many.
 pub fn files() -> Vec<(String, Vec<u8>)> {
     let examples =
         all().into_iter().map(|(letter, picture)| (letter.to_lowercase().to_string(), pack(&picture)));
@@ -245,6 +254,7 @@ pub fn files() -> Vec<(String, Vec<u8>)> {
         ("wide".to_string(), pack(&wide())),
         ("larger".to_string(), pack(&larger())),
         ("longest".to_string(), pack(&longest())),
+        ("drawn".to_string(), drawn()),
         ("second".to_string(), pack(&second())),
         ("second-larger".to_string(), pack(&second_larger())),
         ("longest-second".to_string(), pack(&longest_second())),

@@ -33,7 +33,7 @@ use Rattle.write.specs.Fields.{headerFields, slotFields, endpointFields, linkFi
 use Rattle.write.specs.Rules.{sizeFor}
 use Rattle.write.specs.Faults.{handedFaults, writeFault}
 use Rattle.write.specs.Answers.{writingOf, writingNumbers, filled, writing, bytesFor, writtenBytes}
-use Rattle.generator.specs.Draws.{stateAfter, folded, drawOf, draw}
+use Rattle.draws.specs.Draws.{stateAfter, folded, drawOf, draw}
 use Rattle.generator.specs.Generated.{askedHeader, drawnRows, drawnSlot, drawnEndpoint, drawnLink, drawnServiceLink, generated}
 use Rattle.generator.specs.Faults.{askedFaults, generateFault}
 use Rattle.generator.specs.Answers.{generating, generatedPicture, generatedBytes}

@@ -16,7 +16,7 @@ use Rattle.acts.specs.declared.Act.the-variants.{Evict, Reload, Free}
 use Rattle.acts.specs.Answers.{acting, actBytes, actingNumbers}
 use Rattle.write.specs.Columns.{Lists, handed, listsIn}
 use Rattle.write.specs.Answers.{writing, writingNumbers, writtenBytes}
-use Rattle.generator.specs.Draws.{draw}
+use Rattle.draws.specs.Draws.{draw}
 use Rattle.generator.specs.Generated.{askedHeader}
 use Rattle.generator.specs.Answers.{generating, generatedBytes}
 use Rattle.listing.specs.Listing.{listing}

@@ -8,7 +8,7 @@ use borrow.Author.Tests.{eq-eqb}
 use lib.Dec.{T, eqb, ltb, eqb→eq, ltb→lt, nltb→le}
 use lib.ListN.{length}
 use Rattle.lists.specs.Lists.{first}
-use Rattle.lists.specs.Rules.{Rule, Judged, AllHold, more, none}
+use Rattle.lists.specs.Rules.{Rule, Judged, AllHold, more}
 use Rattle.lists.proofs.Tests.{and-T, not-not-T}
 use Rattle.lists.proofs.Faults.{judge-test, judge-right, judge-none, judged-all, all-judged, Numbered}
 use Rattle.lists.proofs.Rules.{hold-one}

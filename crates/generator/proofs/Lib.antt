@@ -1,6 +1,5 @@
 -- Laws of generating pictures.
-pub mod Products
-pub mod Draws
+pub mod Rows
 pub mod Judged
 pub mod Lists
 pub mod Parts

@@ -1,8 +1,8 @@
 -- The lists that draws fill keep the reader's rules, and their rows are the fields that the code writes. Assumes nothing.
-use mathlib.Core.Path.{_≡_, refl, sym, ap, ap₂, _∙_, subst}
+use mathlib.Core.Path.{_≡_, sym, ap, ap₂, _∙_, subst}
 use mathlib.Core.Logic.{by-cases}
 use mathlib.Core.List.{List, [], _∷_, map, map-map}
-use Prim.Native.Nat.{ℕ, zero, suc, _+_, _*_, _%_, _^_, _≤_, _<_, zero-le, suc-le-suc}
+use Prim.Native.Nat.{ℕ, zero, suc, _+_, _*_, _%_, _^_, _≤_, _<_}
 use native.Mathlib.Omega.{arith}
 use native.Mathlib.Nat.{add-zero, mod-lt}
 use native.Mathlib.Decide.{ℕ-discrete}
@@ -23,11 +23,11 @@ use Rattle.write.specs.Columns.{headerFor}
 use Rattle.write.specs.Fields.{slotFields, endpointFields, linkFields}
 use Rattle.write.proofs.Fields.{Proper}
 use Rattle.write.proofs.Reading.{flag-read}
+use Rattle.draws.specs.Draws.{stateAfter, draw}
+use Rattle.draws.proofs.States.{draw-later}
 use Rattle.generator.specs.declared.DrawnField.{DrawnField}
-use Rattle.generator.specs.Draws.{stateAfter, draw}
 use Rattle.generator.specs.Generated.{drawnRows, drawnSlot, drawnEndpoint, drawnLink, drawnServiceLink, generated}
 use Rattle.generator.specs.Inner.{taken, rowFields}
-use Rattle.generator.proofs.Draws.{draw-later}
 use Rattle.generator.proofs.Judged.{Right}
 
 -- ---- rows of draws

@@ -10,18 +10,18 @@ use Rattle.lists.specs.Lists.{first, sum, flat}
 use Rattle.packing.specs.Packing.{Field}
 use Rattle.packing.specs.Holding.{Fit}
 use Rattle.picture.specs.declared.Header.{Header}
-use Rattle.picture.specs.Layout.{edition1, slotWidths, endpointWidths, linkWidths, serviceLinkWidths, slotsAt, endpointsAt, linksAt, serviceLinksAt, endAt, sizeOf}
+use Rattle.picture.specs.Layout.{slotWidths, endpointWidths, linkWidths, serviceLinkWidths, slotsAt, endpointsAt, linksAt, serviceLinksAt, endAt}
 use Rattle.picture.specs.Inner.{Known, Limited}
 use Rattle.write.specs.Fields.{headerFields, linkFields}
 use Rattle.write.specs.Inner.{Follows}
 use Rattle.write.proofs.Fields.{header-fits}
 use Rattle.write.proofs.Making.{Makes, part-room, follows-at}
+use Rattle.draws.specs.Draws.{stateAfter}
+use Rattle.draws.proofs.States.{state-later}
 use Rattle.generator.specs.declared.DrawnField.{DrawnField}
 use Rattle.generator.specs.declared.Progress.{Progress}
-use Rattle.generator.specs.Draws.{stateAfter}
 use Rattle.generator.specs.Generated.{drawnRows, drawnLink, drawnServiceLink, generated}
 use Rattle.generator.specs.Inner.{rowFields, Roomy, RowsFit, RowsDrawn, Ready}
-use Rattle.generator.proofs.Draws.{state-later}
 use Rattle.generator.proofs.Lists.{drawn-fields, drawn-header, drawn-proper, link-row, service-row}
 use Rattle.generator.proofs.Judged.{Right, asked-right}
 

@@ -13,7 +13,7 @@ use lib.Seq.{take-at}
 use Rattle.picture.specs.declared.Header.{Header}
 use Rattle.picture.specs.Layout.{pictureMax, edition1, sizeOf}
 use Rattle.picture.specs.Rules.{Sizes}
-use Rattle.picture.specs.Inner.{Known, Limited}
+use Rattle.picture.specs.Inner.{Known}
 use Rattle.picture.proofs.Long.{size-small}
 use Rattle.write.specs.Answers.{filled}
 use Rattle.write.proofs.Fields.{length-picture}
@@ -22,26 +22,32 @@ use Rattle.generator.specs.Generated.{askedHeader, generated}
 use Rattle.generator.specs.Rules.{Blocks}
 use Rattle.generator.specs.Faults.{generateFault}
 use Rattle.generator.specs.Answers.{generatedPicture, generatedBytes, ReadsAsDrawn}
-use Rattle.generator.proofs.Judged.{made-right}
+use Rattle.generator.proofs.Judged.{Right, made-right}
 use Rattle.generator.proofs.Lists.{drawn-header, drawn-proper}
 
-module _ (seed : ℕ) (h : Header) (e : h .edition ≡ edition1) (near : h .«near_limit» ≡ h .slots) (buf : List ℕ) (z : generateFault h buf ≡ 0) where
-  reads : ReadsAsDrawn seed h (generatedPicture seed h)
-  unfolding generatedPicture
-  reads =
-      let p = drawn-proper seed h e near (made-right h buf z .0) in
-      record { accepted = picture-accepted p; header = header-back p ∙ sym (drawn-header seed h); picture = picture-back p }
-
-  -- the first bytes of the buffer are the picture
-  front : take (sizeOf h) (generatedBytes seed h buf) ≡ generatedPicture seed h
+module _ (seed : ℕ) (h : Header) where
+  -- the first bytes of the buffer are the picture, whatever it held
+  pub front : (buf : List ℕ) → generateFault h buf ≡ 0 → take (sizeOf h) (generatedBytes seed h buf) ≡ generatedPicture seed h
   unfolding generatedBytes filled generatedPicture
-  front = rw z (take-at _ (drop (sizeOf h) buf) (sizeOf h) (length-picture (h .edition) (generated seed h) ∙ ap sizeOf (sym (drawn-header seed h))))
+  front buf z = rw z (take-at _ (drop (sizeOf h) buf) (sizeOf h) (length-picture (h .edition) (generated seed h) ∙ ap sizeOf (sym (drawn-header seed h))))
+
+  -- so equal arguments give equal bytes, in any two buffers
+  pub front-same : (buf buf′ : List ℕ) → generateFault h buf ≡ 0 → generateFault h buf′ ≡ 0 → take (sizeOf h) (generatedBytes seed h buf) ≡ take (sizeOf h) (generatedBytes seed h buf′)
+  front-same buf buf′ z z′ = front buf z ∙ sym (front buf′ z′)
+
+  reads : h .edition ≡ edition1 → h .«near_limit» ≡ h .slots → Right h → ReadsAsDrawn seed h (generatedPicture seed h)
+  unfolding generatedPicture
+  reads e near r =
+      let p = drawn-proper seed h e near r in
+      record { accepted = picture-accepted p; header = header-back p ∙ sym (drawn-header seed h); picture = picture-back p }
 
 -- what is made of any arguments is read as it was drawn
 pub generated-reads : (seed b blocks d l s : ℕ) (buf : List ℕ) → let h = askedHeader b blocks d l s in
     generateFault h buf ≡ 0 → ReadsAsDrawn seed h (take (sizeOf h) (generatedBytes seed h buf))
 unfolding askedHeader
-generated-reads seed b blocks d l s buf z = let h = askedHeader b blocks d l s in rw (front seed h refl refl buf z) (reads seed h refl refl buf z)
+generated-reads seed b blocks d l s buf z =
+    let h = askedHeader b blocks d l s in
+    rw (front seed h buf z) (reads seed h refl refl (made-right h buf z .0))
 
 -- no picture that is made is longer than the longest
 pub size-most : (b blocks d l s : ℕ) (buf : List ℕ) → let h = askedHeader b blocks d l s in generateFault h buf ≡ 0 → sizeOf h ≤ pictureMax

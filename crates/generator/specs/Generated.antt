@@ -8,7 +8,7 @@ use Rattle.picture.specs.declared.Header.{Header}
 use Rattle.picture.specs.declared.Link.{Link}
 use Rattle.picture.specs.Layout.{edition1}
 use Rattle.picture.specs.Picture.{Slot, Endpoint, Picture}
-use Rattle.generator.specs.Draws.{draw}
+use Rattle.draws.specs.Draws.{draw}
 
 -- the header that is asked for, by β, block count, D, L and S: "n is β times the block count, and so is κ"
 unfoldable pub askedHeader : ℕ → ℕ → ℕ → ℕ → ℕ → Header

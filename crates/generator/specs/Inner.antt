@@ -8,9 +8,9 @@ use Rattle.packing.specs.Packing.{Field, fieldsOf}
 use Rattle.picture.specs.declared.Header.{Header}
 use Rattle.picture.specs.Layout.{edition1, sizeOf}
 use Rattle.write.specs.Inner.{Follows, Room}
+use Rattle.draws.specs.Draws.{stateAfter}
 use Rattle.generator.specs.declared.DrawnField.{DrawnField}
 use Rattle.generator.specs.declared.Progress.{Progress}
-use Rattle.generator.specs.Draws.{stateAfter}
 use Rattle.generator.specs.Generated.{drawnRows}
 use Rattle.generator.specs.Faults.{askedFaults}
 

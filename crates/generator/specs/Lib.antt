@@ -1,8 +1,7 @@
 -- Pictures from a seed: document 02, C-13.
 
--- To be believed: the draws; the header that is asked for, and the picture that draws fill; the rules of what is asked for; what generating
+-- To be believed: the header that is asked for, and the picture that draws fill; the rules of what is asked for; what generating
 -- answers and leaves in the buffer, and how it reads
-pub mod Draws
 pub mod Generated
 pub mod Rules
 pub mod Answers

@@ -1,12 +1,12 @@
 // Pictures filled by draws from a seed, in a lent buffer: the same picture on every machine.
 ghost use mathlib.Core.Path.{_≡_};
-ghost use Prim.Native.Nat.{_+_, _*_, _%_, _^_, _≤_};
+ghost use Prim.Native.Nat.{_+_, _*_, _%_, _≤_};
 ghost use mathlib.Core.List.{_++_};
 ghost use lib.ListN.{drop};
 ghost use Rattle.lists.specs.Lists.{first};
 ghost use Rattle.picture.specs.Layout.{sizeOf};
 ghost use Rattle.write.specs.Inner.{Follows};
-ghost use Rattle.generator.specs.Draws.{drawOf};
+ghost use Rattle.draws.specs.Draws.{drawOf};
 ghost use Rattle.generator.specs.Generated.{askedHeader};
 ghost use Rattle.generator.specs.Faults.{askedFaults};
 ghost use Rattle.generator.specs.Answers.{generatedPicture, Generates};
@@ -21,17 +21,6 @@ use picture::refusals::BLOCKS;
 use picture::refusals::BUFFER;
 use picture::refusals::COUNTS;
 use write::Writing;
-
-// As many numbers as half a word of 64 bits has.
-const HALF: u64 = 0x1_0000_0000;
-
-// What the state grows by with each draw.
-const GROWTH: u64 = 0x9E37_79B9_7F4A_7C15;
-
-// What the state is multiplied with on its way to a draw.
-const FIRST_FACTOR: u64 = 0xBF58_476D_1CE4_E5B9;
-
-const SECOND_FACTOR: u64 = 0x94D0_49BB_1331_11EB;
 
 // The only edition that is generated.
 const EDITION: usize = 1;
@@ -50,30 +39,12 @@ pub struct Progress {
     pub state: u64,
 }
 
-// The product modulo 2^64, by halves: that of the two high ones is a multiple of 2^64.
-fn wrapping_mul(a: u64, b: u64) -> u64
-    ensures { λ r. ⌜ r ≡ a * b % 2 ^ 64 ⌝ }
-{
-    let low = (a % HALF) * (b % HALF);
-    let cross = std::num::wrapping_add_u64((a / HALF) * (b % HALF), (a % HALF) * (b / HALF));
-    std::num::wrapping_add_u64(low, cross << 32)
-}
-
-// What a state draws.
-fn draw_of(state: u64) -> u64
-    ensures { λ r. ⌜ r ≡ drawOf state ⌝ }
-{
-    let once = wrapping_mul(state ^ (state >> 30), FIRST_FACTOR);
-    let twice = wrapping_mul(once ^ (once >> 27), SECOND_FACTOR);
-    twice ^ (twice >> 31)
-}
-
 // What a field takes of the draw of a state.
 fn take(f: DrawnField, state: u64) -> usize
     requires { ⌜ Roomy f × (f .bits ≤ 32) ⌝ }
     ensures { λ r. ⌜ r ≡ taken f (drawOf state) ⌝ }
 {
-    (draw_of(state) % f.values) as usize + f.least
+    (draws::draw_of(state) % f.values) as usize + f.least
 }
 
 // A row of two fields behind what is written up to bit `at`, filled by the draws of two states.
@@ -112,8 +83,8 @@ fn push_rows(
     let mut state = from.state;
     let mut i: usize = 0;
     while i < count {
-        let one = std::num::wrapping_add_u64(state, GROWTH);
-        let two = std::num::wrapping_add_u64(one, GROWTH);
+        let one = draws::next_state(state);
+        let two = draws::next_state(one);
         held = push_row(buf, at + i * row, held, first, second, one, two);
         state = two;
         i += 1;

@@ -1,5 +1,5 @@
-// The numbers of refusals, for every layer, by the names of the header for C. Every call judges the picture first (1 to 7, 17 and 18), and
-// write the lists of one (2 to 6, 17 and 18).
+// The numbers of refusals, for every layer, by the names of the header for C. Every call judges the picture first (1 to 7, 17 and 18),
+// write the lists of one (2 to 6, 17 and 18), and generate its sizes (3 and 4).
 
 // The picture is shorter than a header, or than its header says.
 pub const SHORT: u8 = 1;
@@ -11,7 +11,8 @@ pub const EDITION: u8 = 2;
 // or a near limit that the header has no room for.
 pub const BLOCKS: u8 = 3;
 
-// Number of endpoints, links or service links out of range. Write: columns of endpoints that differ in length.
+// Number of endpoints, links or service links out of range. Write: columns of endpoints that differ in length. Generate: service links, and no
+// endpoint.
 pub const COUNTS: u8 = 4;
 
 // A slot in state 3, or above.
@@ -26,7 +27,7 @@ pub const FILL: u8 = 7;
 // Weigh and the acts: no block of this number.
 pub const NO_BLOCK: u8 = 8;
 
-// Choose, write: the buffer is under the length of the evidence, or of the picture.
+// Choose, write, generate: the buffer is under the length of the evidence, or of the picture.
 pub const BUFFER: u8 = 9;
 
 // Evict, free: a protected endpoint would be cut.

@@ -1,23 +1,14 @@
 -- The parts of a picture have their room in the buffer, and put one behind the other they are its bytes. Assumes nothing.
-use mathlib.Core.Path.{_≡_, refl, sym, ap, ap₂, _∙_, subst}
+use mathlib.Core.Path.{_≡_, sym, ap, ap₂, _∙_}
 use mathlib.Core.Bool.{false}
-use mathlib.Core.List.{List, [], _∷_, _++_, map}
-use Prim.Native.Nat.{ℕ, suc, _+_, _-_, _*_, _/_, _%_, _^_, _≤_, _<_, zero-le, suc-le-suc}
+use mathlib.Core.List.{List, [], _++_, map}
+use Prim.Native.Nat.{ℕ, suc, _+_, _-_, _*_, _%_, _^_, _≤_, _<_, zero-le, suc-le-suc}
 use native.Mathlib.Omega.{arith}
 use native.Mathlib.Nat.{add-zero}
 use lib.ListN.{length, getD, drop, length-map, List·getD-map}
 use lib.Pow.{pow-pos}
-use Rattle.bits.specs.Bits.{bitAt, putField}
-use Rattle.bits.specs.Pushing.{flushed}
-use Rattle.bits.proofs.Reading.{fieldAt-zeros}
-use Rattle.bits.proofs.Pushing.{flushed-whole}
 use Rattle.lists.specs.Lists.{sum, item}
 use Rattle.lists.proofs.Zips.{length-zip, getD-zip}
-use Rattle.packing.specs.Packing.{Bytes, Field}
-use Rattle.packing.specs.Holding.{span, Holds, Put}
-use Rattle.packing.proofs.Fields.{span-append, holds-append, holds-fit}
-use Rattle.packing.proofs.Written.{held-packed}
-use Rattle.packing.proofs.Putting.{put-one, put-behind, put-same}
 use Rattle.picture.specs.declared.Edition.{Edition}
 use Rattle.picture.specs.declared.Header.{Header}
 use Rattle.picture.specs.declared.Link.{Link}
@@ -28,13 +19,13 @@ use Rattle.picture.specs.Inner.{Limited}
 use Rattle.picture.proofs.Editions.{known-for, widths}
 use Rattle.picture.proofs.Starts.{few, ordered}
 use Rattle.write.specs.Columns.{Lists, slotFrom, linkFrom, pictureFrom, headerFor}
-use Rattle.write.specs.Fields.{headerFields, pictureFields, pictureBytes}
+use Rattle.write.specs.Fields.{pictureBytes}
 use Rattle.write.specs.Rules.{sizeFor}
 use Rattle.write.specs.Answers.{bytesFor}
-use Rattle.write.specs.Inner.{columnsHeader, Follows, Room, SlotsFit, EndpointsFit, LinksFit, HeaderFits, Ready, Written}
+use Rattle.write.specs.Inner.{columnsHeader, SlotsFit, EndpointsFit, LinksFit, HeaderFits, Ready, Written}
 use Rattle.write.proofs.Right.{editionIn, headerFrom, Right}
 use Rattle.write.proofs.Judged.{handed-right}
-use Rattle.write.proofs.Fields.{header-fits, header-of, slots-of, endpoints-of, links-of, services-of, header-ends, slots-end, endpoints-end, links-end, span-picture}
+use Rattle.write.proofs.Fields.{header-fits}
 use Rattle.write.proofs.Judging.{right-header, right-limited}
 use Rattle.write.proofs.Making.{Makes, part-room, header-room}
 

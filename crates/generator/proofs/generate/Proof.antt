@@ -10,9 +10,9 @@ use Rattle.picture.specs.declared.Header.{Header}
 use Rattle.picture.specs.Layout.{editionFor, sizeOf}
 use Rattle.picture.specs.Inner.{Known, Limited}
 use Rattle.write.proofs.Answering.{fills-faulty, fills-short, fills-made}
+use Rattle.draws.proofs.Products.{halves-fit}
 use Rattle.generator.specs.Generated.{askedHeader}
 use Rattle.generator.specs.Faults.{askedFaults, generateFault}
-use Rattle.generator.proofs.Products.{halves-fit}
 use Rattle.generator.specs.Answers.{generatedPicture}
 use Rattle.generator.specs.Inner.{Ready}
 use Rattle.generator.proofs.Judged.{asked-right}

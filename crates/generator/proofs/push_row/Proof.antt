@@ -1,7 +1,7 @@
 -- `push_row` writes two fields with the draws of two states. Assumes nothing.
 use Rattle.generator.specs.Inner.{rowFields}
 use native.Mathlib.Omega.{arith}
-use Rattle.generator.proofs.Draws.{taken-small}
+use Rattle.generator.proofs.Rows.{taken-small}
 use borrow.Author.Needs.{needs}
 use Rattle.generator.proofs.push_row.Statement.{statement}
 use Rattle.generator.proofs.push_row.Tie as tie

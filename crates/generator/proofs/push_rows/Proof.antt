@@ -3,7 +3,7 @@ use mathlib.Core.Path.{refl}
 use Prim.Native.Nat.{_+_, _-_}
 use native.Mathlib.Omega.{arith}
 use Rattle.write.proofs.Rows.{Place, row-place}
-use Rattle.generator.proofs.Draws.{Filling, filling-begun, filling-next, filling-ended}
+use Rattle.generator.proofs.Rows.{Filling, filling-begun, filling-next, filling-ended}
 use borrow.Author.Needs.{needs}
 use Rattle.generator.proofs.push_rows.Statement.{statement}
 use Rattle.generator.proofs.push_rows.Tie as tie
@@ -31,11 +31,11 @@ loop-holds c =
     let s = c .before .before .before in
     filling-begun (omega (arith, c .before .struct-known .given)) (s .pre .room .few)
 
-wrapping-add-u64-requires : tie.Need-wrapping-add-u64-requires Inv-loop μ-loop
-wrapping-add-u64-requires c κs = search needs
+next-state-requires : tie.Need-next-state-requires Inv-loop μ-loop
+next-state-requires c κs = search needs
 
-wrapping-add-u64-requires-2 : tie.Need-wrapping-add-u64-requires-2 Inv-loop μ-loop
-wrapping-add-u64-requires-2 c κs = search needs
+next-state-requires-2 : tie.Need-next-state-requires-2 Inv-loop μ-loop
+next-state-requires-2 c κs = search needs
 
 mul-push-row : tie.Need-mul-push-row Inv-loop μ-loop
 mul-push-row c = record { fits = omega (arith, place (c .before .before .before)) }
@@ -69,7 +69,7 @@ loop-again c =
     let k = c .before .before in
     let n = k .before .before in
     let l = n .before .before .before in
-    filling-next (l .loop .inv) (omega arith) (n .before .wrapping-add-u64 .ensures) (n .wrapping-add-u642 .ensures) (k .push-row .ensures)
+    filling-next (l .loop .inv) (omega arith) (n .before .next-state .ensures) (n .next-state2 .ensures) (k .push-row .ensures)
 
 mul-t18 : tie.Need-mul-t18 Inv-loop μ-loop
 mul-t18 c = record { fits = omega (arith, entry (c .before) .pre .room .low) }
@@ -93,8 +93,8 @@ push-rows-spec =
     μ-loop
     add-row
     loop-holds
-    wrapping-add-u64-requires
-    wrapping-add-u64-requires-2
+    next-state-requires
+    next-state-requires-2
     mul-push-row
     add-push-row
     push-row-requires

@@ -1,20 +1,17 @@
 -- `put_generated` writes the header, the four lists that draws fill, and the fill. Assumes nothing.
-use mathlib.Core.Path.{_≡_, refl, sym, ap, _∙_}
-use Prim.Native.Nat.{ℕ, _+_, _*_}
+use mathlib.Core.Path.{refl}
+use Prim.Native.Nat.{_+_, _*_}
 use native.Mathlib.Omega.{arith}
 use native.Mathlib.Nat.{zero-add}
 use lib.Dec.{lit≤}
 use lib.Pow.{pow-pos}
-use Rattle.picture.specs.Layout.{linkWidths, serviceLinkWidths, slotsAt, endpointsAt, linksAt, serviceLinksAt, endAt}
+use Rattle.picture.specs.Layout.{slotsAt, endpointsAt, linksAt, serviceLinksAt, endAt}
 use Rattle.picture.proofs.Starts.{ordered}
-use Rattle.write.specs.Fields.{slotFields, endpointFields, linkFields}
-use Rattle.write.specs.Inner.{Follows}
-use Rattle.write.proofs.Fields.{header-fits, slots-of, endpoints-of, links-of, services-of}
 use Rattle.write.proofs.Making.{header-room, fill-room, picture-made}
-use Rattle.generator.specs.Generated.{drawnSlot, drawnEndpoint, drawnLink, drawnServiceLink, generated}
+use Rattle.draws.proofs.States.{state-begun}
+use Rattle.generator.specs.Generated.{generated}
 use Rattle.generator.specs.Answers.{generatedPicture}
 use Rattle.generator.specs.Inner.{Ready}
-use Rattle.generator.proofs.Draws.{state-begun}
 use Rattle.generator.proofs.Lists.{slot-row, endpoint-row}
 use Rattle.generator.proofs.Parts.{ready-limited, ready-makes, ready-header, Stage, stage-fits, stage-next, stage-follows, slots-to, endpoints-to, links-to, services-to, links-row, services-row, location-roomy, endpoint-roomy}
 use borrow.Author.Needs.{needs}

@@ -1,10 +1,9 @@
 -- `take` brings a draw into a field's range. Assumes nothing.
-use mathlib.Core.Path.{_≡_}
 use Prim.Native.Nat.{_^_, _≤_}
 use native.Mathlib.Omega.{arith}
 use lib.Pow.{pow-mono}
 use Rattle.generator.specs.Inner.{taken}
-use Rattle.generator.proofs.Draws.{taken-small}
+use Rattle.generator.proofs.Rows.{taken-small}
 use borrow.Author.Needs.{needs}
 use Rattle.generator.proofs.take.Statement.{statement}
 use Rattle.generator.proofs.take.Tie as tie

@@ -1,6 +1,5 @@
 -- `push_fill` writes zeros up to the byte. Assumes nothing.
 use mathlib.Core.Path.{sym, _∙_}
-use Prim.Native.Nat.{_+_}
 use native.Mathlib.Omega.{arith}
 use lib.Pow.{pow-pos}
 use Rattle.bits.proofs.Pushing.{flushed-whole}

@@ -1,20 +1,13 @@
 -- `put_picture` writes the header, the four lists and the fill. Assumes nothing.
-use mathlib.Core.Path.{_≡_, refl, sym, ap, _∙_}
-use Prim.Native.Nat.{ℕ, _+_, _-_, _*_, _/_}
+use mathlib.Core.Path.{_≡_, refl, ap, _∙_}
+use Prim.Native.Nat.{ℕ, _+_, _-_, _*_}
 use native.Mathlib.Omega.{arith}
 use lib.ListN.{length}
-use lib.Pow.{pow-pos}
-use Rattle.bits.specs.Bits.{putField}
-use Rattle.bits.specs.Pushing.{flushed}
-use Rattle.bits.proofs.Pushing.{flushed-whole}
 use Rattle.lists.specs.Lists.{sum}
-use Rattle.packing.specs.Holding.{Put}
 use Rattle.picture.specs.declared.Places.{Places}
 use Rattle.picture.specs.Layout.{endpointWidths, linkWidths, serviceLinkWidths, slotWidths, slotsAt, endpointsAt, linksAt, serviceLinksAt, endAt}
 use Rattle.picture.specs.Inner.{placesOf}
-use Rattle.picture.proofs.Starts.{ordered}
 use Rattle.write.specs.Columns.{Lists, handed, pictureFrom}
-use Rattle.write.specs.Fields.{pictureFields}
 use Rattle.write.specs.Inner.{under, Follows, Ready}
 use Rattle.write.proofs.Fields.{slots-of, endpoints-of, links-of, services-of}
 use Rattle.write.proofs.Making.{follows-at, fill-room, picture-made}

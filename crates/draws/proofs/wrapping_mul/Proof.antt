@@ -1,10 +1,10 @@
 -- `wrapping_mul` multiplies modulo 2^64. Assumes nothing.
 use mathlib.Core.Path.{_∙_}
 use native.Mathlib.Omega.{arith}
-use Rattle.generator.proofs.Products.{halves-fit, product-halves}
+use Rattle.draws.proofs.Products.{halves-fit, product-halves}
 use borrow.Author.Needs.{needs}
-use Rattle.generator.proofs.wrapping_mul.Statement.{statement}
-use Rattle.generator.proofs.wrapping_mul.Tie as tie
+use Rattle.draws.proofs.wrapping_mul.Statement.{statement}
+use Rattle.draws.proofs.wrapping_mul.Tie as tie
 
 mul-low : tie.Need-mul-low
 mul-low c = record { fits = halves-fit (omega arith) (omega arith) }

@@ -1,5 +1,5 @@
 -- The product modulo 2^64, by halves. Assumes nothing.
-use mathlib.Core.Path.{_≡_, sym, ap, ap₂, _∙_}
+use mathlib.Core.Path.{_≡_, sym, ap₂, _∙_}
 use Prim.Native.Nat.{ℕ, _+_, _*_, _/_, _%_, _-_, _^_, _≤_, _<_}
 use native.Mathlib.Omega.{arith}
 use native.Mathlib.Nat.{mul-add, add-mul, mul-assoc, mul-right-comm, mul-mul-mul-comm, mul-le-mul, div-add-mod'}

@@ -1,8 +1,8 @@
 -- `draw_of` mixes a state. Assumes nothing.
-use Rattle.generator.specs.Draws.{folded, drawOf}
+use Rattle.draws.specs.Draws.{folded, drawOf}
 use borrow.Author.Needs.{needs}
-use Rattle.generator.proofs.draw_of.Statement.{statement}
-use Rattle.generator.proofs.draw_of.Tie as tie
+use Rattle.draws.proofs.draw_of.Statement.{statement}
+use Rattle.draws.proofs.draw_of.Tie as tie
 
 wrapping-mul-requires : tie.Need-wrapping-mul-requires
 wrapping-mul-requires c κs = search needs

@@ -1,10 +1,9 @@
--- Laws of draws: the state grows draw by draw, and rows are filled by the draws that follow. Assumes nothing.
-use mathlib.Core.Path.{_≡_, sym, ap, ap₂, _∙_}
-use mathlib.Core.List.{List, [], _∷_, map}
+-- Rows of fields, filled by one draw after the other. Assumes nothing.
+use mathlib.Core.Path.{_≡_}
+use mathlib.Core.List.{List}
 use Prim.Native.Nat.{ℕ, _+_, _*_, _%_, _^_, _≤_, _<_}
 use native.Mathlib.Omega.{arith}
 use native.Mathlib.Nat.{mod-lt}
-use lib.ListN.{length}
 use Rattle.lists.specs.Lists.{range, flat}
 use Rattle.lists.proofs.Ranges.{length-range}
 use Rattle.lists.proofs.Picks.{range-at}
@@ -12,29 +11,11 @@ use Rattle.packing.specs.Packing.{Field, fieldsOf}
 use Rattle.packing.specs.Holding.{span}
 use Rattle.write.specs.Inner.{Follows}
 use Rattle.write.proofs.Rows.{Rows, rows-begun, rows-next, rows-ended}
+use Rattle.draws.specs.Draws.{stateAfter, drawOf, draw}
+use Rattle.draws.proofs.States.{state-begun}
 use Rattle.generator.specs.declared.DrawnField.{DrawnField}
-use Rattle.generator.specs.Draws.{growth, stateAfter, drawOf, draw}
 use Rattle.generator.specs.Generated.{drawnRows}
 use Rattle.generator.specs.Inner.{taken, rowFields, Roomy}
-
--- ---- the state
-
-pub state-begun : (z : ℕ) → z < 2 ^ 64 → z ≡ stateAfter z (0 * 2)
-unfolding stateAfter
-state-begun z l = omega arith
-
-pub state-next : (z k : ℕ) → (stateAfter z k + growth) % 2 ^ 64 ≡ stateAfter z (k + 1)
-unfolding stateAfter
-state-next z k = omega arith
-
--- draws from the state after j draws are those that follow
-pub state-later : (z j k : ℕ) → stateAfter (stateAfter z j) k ≡ stateAfter z (j + k)
-unfolding stateAfter
-state-later z j k = omega arith
-
-pub draw-later : (z j k : ℕ) → draw (stateAfter z j) k ≡ draw z (j + k)
-unfolding draw
-draw-later z j k = ap drawOf (state-later z j k)
 
 -- ---- what a field takes
 
@@ -63,7 +44,7 @@ module _ {a b : DrawnField} {count at held z : ℕ} {old : List ℕ} where
 
   -- two draws more, and a row
   pub filling-next : {i rest s one two more : ℕ} {mid new : List ℕ} → Filling a b count at held z old i mid rest s → i < count
-      → one ≡ (s + growth) % 2 ^ 64 → two ≡ (one + growth) % 2 ^ 64
+      → one ≡ stateAfter s 1 → two ≡ stateAfter one 1
       → Follows mid (at + i * (a .bits + b .bits)) rest (rowFields a b (drawOf one) (drawOf two)) new (at + i * (a .bits + b .bits) + (a .bits + b .bits)) more
       → Filling a b count at held z old (i + 1) new more two
   unfolding draw stateAfter

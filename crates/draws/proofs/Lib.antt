@@ -1,0 +1,3 @@
+-- Laws of draws.
+pub mod Products
+pub mod States
