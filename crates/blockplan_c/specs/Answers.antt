@@ -1,5 +1,5 @@
 -- What the calls for C answer: "A check that passes and an act that is done return 0; to C a refusal is minus its number", and choose "returns
--- its length", as does write. Assumes nothing.
+-- its length", as do write and generate. Assumes nothing.
 use mathlib.Core.List.{List, [], _∷_}
 use mathlib.Core.Path.{_≡_}
 use Prim.Native.Nat.{ℕ, zero, suc}

@@ -1,4 +1,4 @@
--- What writing answers, by document 01's numbers, and the buffer that it leaves. Assumes nothing.
+-- What a call that makes a picture answers, by document 01's numbers, and the buffer that it leaves; and what writing does. Assumes nothing.
 use mathlib.Core.Bool.{cond}
 use mathlib.Core.List.{List, [], _∷_, _++_}
 use mathlib.Core.Path.{_≡_}

@@ -40,7 +40,7 @@ use picture::refusals::BUFFER;
 use picture::refusals::COUNTS;
 use picture::refusals::EDITION;
 
-// What writing answers.
+// What a call that makes a picture answers.
 pub enum Writing {
     Length(usize),
     Refused(u8),
