@@ -4,7 +4,8 @@
 use crate::edition::{FIRST, MAX_BLOCK_SIZE, MAX_ENDPOINTS, MAX_LINKS};
 use crate::picture::{Endpoint, Slot, State};
 use crate::random::Random;
-use crate::tests::ROOM;
+use crate::samples::drawn;
+use crate::tests::{choice_of, file, ROOM};
 use crate::{generate, read, refusals, Asked};
 
 const KNOWN_SEED: u64 = 1_234_567;
@@ -286,4 +287,20 @@ fn sizes_are_judged_in_the_order_of_the_header() {
         fault(&mut asked);
         assert_eq!(generated(7, &asked, 0), Err(number), "{asked:?}");
     }
+}
+
+/// What the C example `load` is held to: how many of a thousand networks have a block that can go, and
+/// what they serve and would lose together.
+#[test]
+fn the_lines_of_load_are_a_thousand_choices() {
+    let choices: Vec<_> = (1..=1000).map(|seed| choice_of(&drawn(seed))).collect();
+    let served: u64 = choices.iter().map(|(served, _)| u64::from(*served)).sum();
+    let losses: Vec<u64> =
+        choices.iter().filter_map(|(_, chosen)| chosen.map(|(_, loss)| loss.into())).collect();
+    let lost: u64 = losses.iter().sum();
+    let lines = format!(
+        "1000 networks, a block can go in {}\nserved {served} lost {lost}\nstatus 0\n",
+        losses.len()
+    );
+    assert_eq!(file("examples/load.lines"), lines.into_bytes());
 }

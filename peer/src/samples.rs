@@ -235,12 +235,13 @@ pub fn small() -> Vec<Picture> {
     examples.chain([tie(), wide(), larger()]).chain(in_second).collect()
 }
 
-/// Six blocks of four slots, 12 endpoints, 40 links and 24 serving links, drawn from seed 1.
-pub fn drawn() -> Vec<u8> {
+/// Six blocks of four slots, 12 endpoints, 40 links and 24 serving links, drawn from a seed.
+pub fn drawn(seed: u64) -> Vec<u8> {
     let asked = Asked { block_size: 4, blocks: 6, endpoints: 12, links: 40, serving: 24 };
-    let mut buffer = [0; MAX_PICTURE_BYTES];
-    let length = generate(1, &asked, &mut buffer).expect("sizes that a picture has");
-    buffer[..length].to_vec()
+    let mut buffer = vec![0; MAX_PICTURE_BYTES];
+    let length = generate(seed, &asked, &mut buffer).expect("sizes that a picture has");
+    buffer.truncate(length);
+    buffer
 }
 
 /// The pictures of `examples/` by their file names: the examples, the tie, the wide blocks, the larger
@@ -254,7 +255,7 @@ pub fn files() -> Vec<(String, Vec<u8>)> {
         ("wide".to_string(), pack(&wide())),
         ("larger".to_string(), pack(&larger())),
         ("longest".to_string(), pack(&longest())),
-        ("drawn".to_string(), drawn()),
+        ("drawn".to_string(), drawn(1)),
         ("second".to_string(), pack(&second())),
         ("second-larger".to_string(), pack(&second_larger())),
         ("longest-second".to_string(), pack(&longest_second())),

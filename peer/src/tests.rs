@@ -50,7 +50,7 @@ fn case_a_has_the_printed_listing() {
     assert_eq!(listing(&[]), "refused 1\n");
 }
 
-fn file(path: &str) -> Vec<u8> {
+pub fn file(path: &str) -> Vec<u8> {
     let path = format!("{}/../{path}", env!("CARGO_MANIFEST_DIR"));
     std::fs::read(&path).unwrap_or_else(|error| panic!("{path}: {error}"))
 }
