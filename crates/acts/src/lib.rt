@@ -1,4 +1,6 @@
 // The acts on a block of a lent picture: evict, reload and free.
+#![tactic(auto)]
+
 ghost use Rattle.std.specs.Prelude.{◌≡◌, ◌&&◌, ◌||◌, [], ◌≢◌, ◌≤◌, ◌<◌, eqb};
 ghost use Rattle.lists.specs.Lists.{range, any, outcome};
 ghost use Rattle.picture.specs.Picture.{picture_of, slot_of};
@@ -13,7 +15,7 @@ use picture::refusals::{NEAR, NO_BLOCK, NO_CHANGE, PROTECTED};
 use picture::{FREED, HELD, Header, RECOVERABLE, Reading};
 
 // What is done to a block.
-#[derive(Drop)]
+#[derive(Clone, Copy)]
 pub enum Act {
     Evict,
     Reload,
@@ -21,7 +23,7 @@ pub enum Act {
 }
 
 // What an act answers.
-#[derive(Drop)]
+#[derive(Clone, Copy)]
 pub enum Acting {
     Done,
     Refused(u8),

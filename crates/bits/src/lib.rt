@@ -1,6 +1,8 @@
 // Bit fields of a general width at any bit position of a byte slice, the most significant bit first.
 // A field is read from a window of four bytes and written a byte at a time, with shifts and masks; fields that follow each other are pushed,
 // and those of whole bytes are read and stored as such.
+#![tactic(auto)]
+
 ghost use Rattle.std.specs.Prelude.{◌≡◌, ◌+◌, ◌*◌, ◌/◌, ◌%◌, ◌^◌, ◌≤◌, ◌<◌, length, set};
 ghost use Rattle.bits.specs.Bits.{field_at, put_field};
 ghost use Rattle.bits.specs.Pushing.{Pushable, Pushed};

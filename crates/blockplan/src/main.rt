@@ -1,4 +1,6 @@
 // Reads a picture from standard input and prints its listing.
+#![tactic(auto)]
+
 use libc::{STDIN_FILENO, STDOUT_FILENO};
 use listing::TEXT_MAX;
 use picture::PICTURE_MAX;

@@ -10,7 +10,7 @@ use picture::Header;
 use rows::WORDS;
 
 // Whether evidence has the form for a picture, and how many candidates the picture has.
-#[derive(Drop)]
+#[derive(Clone, Copy)]
 pub struct Formed {
     pub right: bool,
     pub count: usize,

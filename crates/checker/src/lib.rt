@@ -1,4 +1,6 @@
 // Checking evidence from anywhere against a picture. It follows the forests that the evidence brings and never searches for a chain.
+#![tactic(auto)]
+
 ghost use Rattle.std.specs.Prelude.{◌≡◌, ◌≢◌, []};
 ghost use Rattle.lists.specs.Lists.{outcome};
 ghost use Rattle.picture.specs.Inner.{Read};
@@ -15,7 +17,7 @@ use picture::refusals::{FORM, VERDICT};
 use picture::{BLOCKS_MAX, Header, Reading};
 
 // What check answers.
-#[derive(Drop)]
+#[derive(Clone, Copy)]
 pub enum Checking {
     Passed,
     Refused(u8),

@@ -1,4 +1,6 @@
 // Choosing a block, with evidence in a lent buffer.
+#![tactic(auto)]
+
 ghost use Rattle.std.specs.Prelude.{◌≡◌, List, [], ◌∷◌, ◌++◌, ℕ, ◌+◌, ◌*◌, ◌/◌, ◌≤◌, ◌<◌, length, drop};
 ghost use Rattle.lists.specs.Lists.{outcome};
 ghost use Rattle.packing.specs.Packing.{fields_of};
@@ -24,7 +26,7 @@ use picture::{Edition, Header, LOCATION_BITS, Reading};
 use rows::{LOCATIONS, WORDS};
 
 // What choose answers.
-#[derive(Drop)]
+#[derive(Clone, Copy)]
 pub enum Choosing {
     Length(usize),
     Refused(u8),
@@ -32,7 +34,7 @@ pub enum Choosing {
 
 // What is known of an accepted picture before its evidence is written: the rows of its held and of its held near slots, the number of its
 // candidates, and the evidence's length.
-#[derive(Drop)]
+#[derive(Clone, Copy)]
 pub struct Plan {
     pub held: [u64; WORDS],
     pub near: [u64; WORDS],

@@ -1,4 +1,6 @@
 // Draws of SplitMix64: numbers that look random, and are the same on every machine.
+#![tactic(auto)]
+
 ghost use Rattle.std.specs.Prelude.{◌≡◌, ◌*◌, ◌%◌, ◌^◌};
 ghost use Rattle.draws.specs.Draws.{state_after, draw_of};
 

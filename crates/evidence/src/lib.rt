@@ -1,5 +1,7 @@
 // Evidence for a choice: its layout as the numbers that the code uses, what it says at each place, and the order of choice.
 // `specs/Layout.antt` has the widths that the contracts cite.
+#![tactic(auto)]
+
 ghost use Rattle.std.specs.Prelude.{◌≡◌, ◌≤◌};
 ghost use Rattle.lists.specs.Lists.{sum};
 ghost use Rattle.picture.specs.Inner.{Known, Limited};
@@ -59,7 +61,7 @@ pub const EVIDENCE_MAX: usize = HEAD_BYTES
     + BLOCKS_MAX * (SECTION_HEAD_BYTES + LONGEST_FOREST);
 
 // What the head says.
-#[derive(Drop)]
+#[derive(Clone, Copy)]
 pub struct Head {
     pub edition: usize,
     pub verdict: usize,
@@ -70,7 +72,7 @@ pub struct Head {
 }
 
 // What a section states before its forest.
-#[derive(Drop)]
+#[derive(Clone, Copy)]
 pub struct Stated {
     pub block: usize,
     pub loss: usize,
@@ -78,7 +80,7 @@ pub struct Stated {
 }
 
 // A choice: verdict 1 with a block, its loss and how many endpoints it cuts, or all 0.
-#[derive(Drop)]
+#[derive(Clone, Copy)]
 pub struct Choice {
     pub verdict: usize,
     pub block: usize,
@@ -87,7 +89,7 @@ pub struct Choice {
 }
 
 // A part of the evidence, in bytes.
-#[derive(Drop)]
+#[derive(Clone, Copy)]
 pub struct Part {
     pub start: usize,
     pub size: usize,

@@ -1,4 +1,6 @@
 // Prints a picture that draws from a seed fill: the seed and the sizes are the arguments.
+#![tactic(auto)]
+
 ghost use Rattle.std.specs.Prelude.{◌≡◌, ◌-◌, ◌^◌, min};
 ghost use Rattle.generate.specs.Arguments.{goes_on, given};
 
@@ -10,7 +12,7 @@ use write::Writing;
 const ARGUMENTS: usize = 6;
 
 // What an argument says.
-#[derive(Drop)]
+#[derive(Clone, Copy)]
 pub enum Argument {
     Number(u64),
     Other,

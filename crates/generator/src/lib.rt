@@ -1,4 +1,6 @@
 // Pictures filled by draws from a seed, in a lent buffer: the same picture on every machine.
+#![tactic(auto)]
+
 ghost use Rattle.std.specs.Prelude.{◌≡◌, ◌+◌, ◌*◌, ◌%◌, ◌≤◌, ◌++◌, drop};
 ghost use Rattle.lists.specs.Lists.{first};
 ghost use Rattle.picture.specs.Layout.{size_of};
@@ -17,7 +19,7 @@ use write::Writing;
 const EDITION: usize = 1;
 
 // A field that takes a draw: as many values as this, from the least on.
-#[derive(Drop)]
+#[derive(Clone, Copy)]
 pub struct DrawnField {
     pub bits: usize,
     pub values: u64,
@@ -25,7 +27,7 @@ pub struct DrawnField {
 }
 
 // How far a picture is filled: the bits that are written, those of them that fill no byte yet, and the state of the draws.
-#[derive(Drop)]
+#[derive(Clone, Copy)]
 pub struct Progress {
     pub at: usize,
     pub held: usize,

@@ -1,4 +1,6 @@
 // A walk over links between locations by levels: the parent and the depth of every slot that chains from the origin reach.
+#![tactic(auto)]
+
 ghost use Rattle.std.specs.Prelude.{◌<◌, eqb};
 ghost use Rattle.rows.specs.Rows.{marked, linked_in, in_word, Narrow, marks_max};
 ghost use Rattle.rows.specs.Ranges.{no_range, without, avoiding};
@@ -12,7 +14,7 @@ use rows::{LOCATIONS, Range, SLOTS, WORDS};
 const DEEPEST: u16 = SLOTS as u16;
 
 // An entry of a forest (01: the parent and the depth of a slot).
-#[derive(Drop)]
+#[derive(Clone, Copy)]
 pub struct Node {
     pub parent: usize,
     pub depth: usize,

@@ -1,5 +1,7 @@
 // What the program prints for a picture: the served weight, a line for each candidate and the choice, or a refusal. The numbers are read off
 // the evidence that choose writes, so that nothing is weighed twice.
+#![tactic(auto)]
+
 ghost use Rattle.std.specs.Prelude.{◌≡◌, ◌++◌, ◌+◌, ◌^◌, ◌≤◌, ◌<◌, length, drop};
 ghost use Rattle.picture.specs.Layout.{blocks_max};
 ghost use Rattle.picture.specs.Inner.{Limited};

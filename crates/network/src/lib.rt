@@ -1,4 +1,6 @@
 // A picture's network as rows of marks: links, service links, held and near slots; a block's numbers, and the endpoints' weights.
+#![tactic(auto)]
+
 ghost use Rattle.std.specs.Prelude.{◌≡◌, suc, ◌+◌, ◌*◌, ◌≤◌, replicate};
 ghost use Rattle.rows.specs.Rows.{slots_max, locations_max};
 ghost use Rattle.picture.specs.Layout.{endpoints_max};
@@ -14,14 +16,14 @@ use rows::{LOCATIONS, Range, WORDS};
 pub const ENDPOINTS: usize = ENDPOINTS_MAX + 1;
 
 // The held slots, and those of them that are near.
-#[derive(Drop)]
+#[derive(Clone, Copy)]
 pub struct SlotRows {
     pub held: [u64; WORDS],
     pub near: [u64; WORDS],
 }
 
 // What giving up a block costs: the weight that is lost, how many endpoints are cut, and the mark (1 if a protected one is, else 0).
-#[derive(Drop)]
+#[derive(Clone, Copy)]
 pub struct Cost {
     pub block: usize,
     pub loss: usize,

@@ -1,1 +1,3 @@
 // Fields packed into bytes: definitions and laws. There is no code here.
+#![tactic(auto)]
+

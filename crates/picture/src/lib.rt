@@ -1,4 +1,6 @@
 // A picture of one bundle: its layout, the first fault of any bytes, and the fields of an accepted one.
+#![tactic(auto)]
+
 ghost use Rattle.std.specs.Prelude.{◌≡◌, [], ◌∷◌, map, ◌+◌, ◌-◌, ◌*◌, ◌≤◌, ◌<◌, length, get_or, take, drop};
 ghost use Rattle.bits.specs.Bits.{put_field};
 ghost use Rattle.lists.specs.Lists.{first, sum, outcome};
@@ -88,7 +90,7 @@ pub const FREED: usize = 2;
 const STATE_MAX: usize = FREED;
 
 // An edition: its number; the width of n, of κ and of a location; the largest β and the largest n.
-#[derive(Drop)]
+#[derive(Clone, Copy)]
 pub struct Edition {
     pub number: usize,
     pub location_bits: usize,
@@ -97,7 +99,7 @@ pub struct Edition {
 }
 
 // The header's numbers: its edition's, β, n, κ, D, L and S.
-#[derive(Drop)]
+#[derive(Clone, Copy)]
 pub struct Header {
     pub edition: Edition,
     pub block_size: usize,
@@ -109,7 +111,7 @@ pub struct Header {
 }
 
 // Where the parts of a picture start, in bits: the slots follow the header.
-#[derive(Drop)]
+#[derive(Clone, Copy)]
 pub struct Places {
     pub endpoints: usize,
     pub links: usize,
@@ -118,14 +120,14 @@ pub struct Places {
 }
 
 // A link between two locations, or a service link from a location to an endpoint.
-#[derive(Drop)]
+#[derive(Clone, Copy)]
 pub struct Link {
     pub from: usize,
     pub to: usize,
 }
 
 // What reading a picture answers.
-#[derive(Drop)]
+#[derive(Clone, Copy)]
 pub enum Reading {
     Accepted(Header),
     Refused(u8),

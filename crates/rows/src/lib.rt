@@ -1,4 +1,6 @@
 // Rows of marks, 64 to a word: sets of locations; and ranges of locations by their numbers.
+#![tactic(auto)]
+
 ghost use Rattle.std.specs.Prelude.{Bool, ◌≡◌, ℕ, ◌+◌, ◌-◌, ◌^◌, ◌≤◌, ◌<◌, length, get_or};
 ghost use Rattle.lists.specs.Lists.{range, any};
 ghost use Rattle.rows.specs.Ranges.{no_range, UpTo, LeftOut};
@@ -14,7 +16,7 @@ pub const WORDS: usize = 6;
 const FEW_WORDS: usize = 4;
 
 // Locations by their numbers: those above the first number, up to the second (01: the slots of a block).
-#[derive(Drop)]
+#[derive(Clone, Copy)]
 pub struct Range {
     pub after: usize,
     pub last: usize,

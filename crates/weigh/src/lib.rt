@@ -1,4 +1,6 @@
 // Weighing a block: the served weight, the weight that is lost without the block, and whether a protected endpoint is cut.
+#![tactic(auto)]
+
 ghost use Rattle.std.specs.Prelude.{◌≡◌, ◌&&◌, suc, ◌≤◌, ◌<◌, length};
 ghost use Rattle.lists.specs.Lists.{outcome};
 ghost use Rattle.rows.specs.Rows.{marked, Narrow, marks_max};
@@ -15,21 +17,21 @@ use picture::{Header, Reading};
 use rows::{LOCATIONS, WORDS};
 
 // What weighing gives.
-#[derive(Drop)]
+#[derive(Clone, Copy)]
 pub struct Weights {
     pub served: u32,
     pub loss: u32,
     pub mark: u8,
 }
 
-#[derive(Drop)]
+#[derive(Clone, Copy)]
 pub enum Weighing {
     Weighed(Weights),
     Refused(u8),
 }
 
 // The weight of some endpoints, how many they are, and 1 if one of them is protected, else 0.
-#[derive(Drop)]
+#[derive(Clone, Copy)]
 pub struct Lost {
     pub weight: u32,
     pub count: u8,

@@ -1,4 +1,6 @@
 // Writing a picture from lists, in a lent buffer.
+#![tactic(auto)]
+
 ghost use Rattle.std.specs.Prelude.{◌≡◌, Bool, ◌+◌, ◌*◌, ◌<◌, length, get_or};
 ghost use mathlib.Core.List.{[], ◌∷◌, map, zip_with};
 ghost use Rattle.bits.specs.Bits.{put_field};
@@ -23,7 +25,7 @@ use picture::{
 };
 
 // What a call that makes a picture answers.
-#[derive(Drop)]
+#[derive(Clone, Copy)]
 pub enum Writing {
     Length(usize),
     Refused(u8),
