@@ -199,7 +199,7 @@ field_put_other bs p w v q u h o = number_ext (λ i. bit_at (put_field bs p w v)
 pub put_field_join : (bs : List ℕ) (p a b v : ℕ) → put_field bs p (a + b) v ≡ put_field (put_field bs p a (v / 2 ^ b)) (p + a) b v
 unfolding put_field
 put_field_join bs p a zero v = rw (add-zero, div-one)
-put_field_join bs p a (suc b) v = rw (add-suc a b, put_field_join bs p a b (v / 2), add_assoc p a b, ← halved)
+put_field_join bs p a (suc b) v = rw (add-suc a b, put_field_join bs p a b (v / 2), add_assoc p a b, halved)
   where
     halved : v / 2 / 2 ^ b ≡ v / 2 ^ suc b
     halved = shr-shr v 1 b ∙ ap (λ (e : ℕ). v / 2 ^ e) (one-add b)
