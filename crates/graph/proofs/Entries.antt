@@ -12,10 +12,10 @@ use lib.Dec.{T, eqb, eqb→eq}
 use lib.ListN.{length, get_or, set, length-set}
 use lib.Seq.{get_or-set_same, get_or-set_other}
 use Rattle.rows.specs.Rows.{in_word, slots_max}
-use Rattle.graph.specs.Sweeps.{Whole, Entered}
+use Rattle.graph.specs.Sweeps.{Locations, Whole, Entered}
 use Rattle.lists.proofs.Tests.{eq_T}
 use Rattle.rows.proofs.Parts.{done, Union, done_none, done_more, done_marks, marks_done}
-use Rattle.rows.proofs.InWords.{WordLeft, word_begun, word_picked, word_next, none_in_zero}
+use Rattle.rows.proofs.InWords.{WordLeft, word_begun, word_here, word_picked, word_next, none_in_zero}
 
 -- nothing is marked: no entry is made
 pub entered_none : {marks : ℕ → Bool} {u d : ℕ} {parent depth : List ℕ} → Whole parent depth → ((v : ℕ) → ¬ T (marks v)) → Entered marks u d parent depth parent depth
@@ -50,6 +50,10 @@ module _ {u d : ℕ} {parent depth parent' depth' : List ℕ} where
           (ℕ_discrete v a)
           (λ q. rw q (get_or-set_same xs a x 0 l))
           (λ ne. get_or-set_other xs a v x 0 ne ∙ ⊎_elim old (λ n. absurd (ne (sym (eqb→eq a v n)))) (both.splits v t))
+
+-- the next mark of a word that marks locations alone is a location
+pub next_inside : {word base w : ℕ} → Locations (in_word word base) → WordLeft word base w → (w ≡ 0 → ⊥) → base + count_trailing_zeros 64 w ≤ slots_max
+next_inside l left some = l.within _ (word_here left some)
 
 -- what is left of the word is w, and what is done of it is entered
 pub record Entering (word base u d w : ℕ) (parent₀ depth₀ parent depth : List ℕ) : Type 0 where

@@ -1,0 +1,10 @@
+-- `sweep_word` sweeps the rows of a word's locations: the rows of what is done of the word are swept. Assumes nothing.
+use Rattle.graph.proofs.Frontiers.{WordSweeping}
+use Rattle.graph.proofs.sweep_word.Given as goal
+
+abbrev pub invariant-loop-w : goal.invariant-loop-w
+invariant-loop-w l =
+    WordSweeping l.block l.links l.word l.base l.words l.d l.w l.initial.fresh l.initial.parent l.initial.depth l.fresh l.parent l.depth
+
+abbrev pub decreases-loop-w : goal.decreases-loop-w
+decreases-loop-w l = l.w
