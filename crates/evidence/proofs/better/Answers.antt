@@ -7,9 +7,7 @@ use Rattle.network.specs.declared.Cost.{Cost}
 use Rattle.evidence.specs.declared.Choice.{Choice}
 use Rattle.evidence.specs.Canonical.{is_less, bettered}
 use Rattle.evidence.proofs.Least.{taken}
-use borrow.Author.Rules.{rules}
-use Rattle.evidence.proofs.better.Statement.{statement}
-use Rattle.evidence.proofs.better.Tie as tie
+use Rattle.evidence.proofs.better.Goals as goal
 
 module _ (c : Choice) (w : Cost) where
   better_marked : w.mark ≢ 0 → c ≡ bettered c w
@@ -28,20 +26,14 @@ module _ (c : Choice) (w : Cost) where
   unfolding bettered
   better_kept v l = rw (ne_eqb c.verdict 0 v, l, and-false)
 
-returns : tie.Need-returns
-returns c = better_marked _ _ c.if1.true
+pub returns-then-w-ne0 : goal.returns-then-w-ne0
+returns-then-w-ne0 c = better_marked _ _ c.if-w-ne0.true
 
-returns-2 : tie.Need-returns-2
-returns-2 c = better_first _ _ c.before.before.if1.false c.if2.true
+pub returns-then-c-eq0 : goal.returns-then-c-eq0
+returns-then-c-eq0 c = better_first _ _ c.if-w-ne0.false c.if-c-eq0.true
 
-is-less-requires : tie.Need-is-less-requires
-is-less-requires c κs = search rules
+pub returns-then-is_less : goal.returns-then-is_less
+returns-then-is_less c = better_less _ _ c.if-w-ne0.false (sym c.is_less.ensures ∙ c.if-is_less.true)
 
-returns-3 : tie.Need-returns-3
-returns-3 c = better_less _ _ c.before.before.before.before.if1.false (sym c.before.is-less.ensures ∙ c.if3.true)
-
-returns-4 : tie.Need-returns-4
-returns-4 c = better_kept _ _ c.before.before.if2.false (sym c.before.is-less.ensures ∙ c.if3.false)
-
-pub better-spec : {M : Type 1} → statement M
-better-spec = tie.close (tie.spec returns returns-2 is-less-requires returns-3 returns-4)
+pub returns : goal.returns
+returns c = better_kept _ _ c.if-c-eq0.false (sym c.is_less.ensures ∙ c.if-is_less.false)
