@@ -18,7 +18,7 @@ fn main() {
 fn link() {
     let folder = folder();
     let archive = folder.join(format!("lib{LIBRARY}.a"));
-    assert!(archive.exists(), "{} is not there: run `rt staticlib {LIBRARY}`", archive.display());
+    assert!(archive.exists(), "{} is not there: run `rt lib` in crates/{LIBRARY}", archive.display());
     println!("cargo:rustc-link-search=native={}", folder.display());
     println!("cargo:rustc-link-lib=static={LIBRARY}");
     // Without this a rebuilt archive would not be linked again.
@@ -27,6 +27,6 @@ fn link() {
 
 /// The folder that the variable names, or the one in which the archive is made.
 fn folder() -> PathBuf {
-    let made = || PathBuf::from(env!("CARGO_MANIFEST_DIR")).join("../target/staticlib");
+    let made = || PathBuf::from(env!("CARGO_MANIFEST_DIR")).join("../crates/blockplan_c/out");
     env::var_os(FOLDER).map_or_else(made, PathBuf::from)
 }
