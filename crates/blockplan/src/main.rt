@@ -1,17 +1,35 @@
 // Reads a picture from standard input and prints its listing.
 #![tactic(auto)]
 
-use libc::{STDIN_FILENO, STDOUT_FILENO};
+ghost use Rattle.std.specs.Io.{ReadsAtMost};
+
 use listing::TEXT_MAX;
 use picture::PICTURE_MAX;
+use std::io;
+use std::io::{Read, Stdin};
 
 // The longest picture and a byte more: an input that is longer still is listed as these first bytes of it are.
 const INPUT_BYTES: usize = PICTURE_MAX + 1;
 
-fn main() {
+// Reads until the buffer is full or the input ends: how many bytes it put at the buffer's front.
+fn read_full(input: &mut Stdin, buf: &mut [u8]) -> io::Result<usize>
+    ensures { ReadsAtMost result buf.new }
+{
+    let mut done: usize = 0;
+    while done < buf.len() {
+        let n = input.read(&mut buf[done..])?;
+        if n == 0 {
+            break;
+        }
+        done += n;
+    }
+    Ok(done)
+}
+
+fn main(rt: HostRuntime) -> io::Result<()> {
     let mut input = [0u8; INPUT_BYTES];
-    let n = io::read_full(STDIN_FILENO, &mut input);
+    let n = read_full(&mut rt.stdin(), &mut input)?;
     let mut text = [0u8; TEXT_MAX];
     let length = listing::list(&input[..n], &mut text);
-    io::write_all(STDOUT_FILENO, &text[..length]);
+    rt.write_all(&text[..length])
 }

@@ -4,8 +4,9 @@
 ghost use Rattle.std.specs.Prelude.{◌≡◌, ◌-◌, ◌^◌, min};
 ghost use Rattle.generate.specs.Arguments.{goes_on, given};
 
-use libc::{STDERR_FILENO, STDOUT_FILENO};
 use picture::PICTURE_MAX;
+use std::env::{Env, FillError};
+use std::io;
 use write::Writing;
 
 // The seed, β, the block count, D, L and S.
@@ -53,20 +54,31 @@ fn number(text: &[u8]) -> Argument
 }
 
 // The number that argument i says. One that is missing, or longer than any number, says none.
-fn nth_number(i: usize) -> Argument {
+fn nth_number(rt: &impl Env, i: usize) -> Argument {
     let mut text = [0u8; 64];
-    let k = os::arg(i, &mut text);
-    number(&text[..k])
+    match rt.arg(i, &mut text) {
+        Ok(k) => number(&text[..k]),
+        Err(_) => Argument::Other,
+    }
+}
+
+// Whether there is an argument i.
+fn is_given(rt: &impl Env, i: usize) -> bool {
+    let mut text = [0u8; 1];
+    match rt.arg(i, &mut text) {
+        Err(FillError::NotPresent) => false,
+        _ => true,
+    }
 }
 
 // The numbers of the arguments, if there are as many and each says one.
-fn read_numbers(numbers: &mut [u64; ARGUMENTS]) -> bool {
-    if os::arg_count() != ARGUMENTS + 1 {
+fn read_numbers(rt: &impl Env, numbers: &mut [u64; ARGUMENTS]) -> bool {
+    if is_given(rt, ARGUMENTS + 1) {
         return false;
     }
     let mut i: usize = 0;
     while i < ARGUMENTS {
-        match nth_number(i + 1) {
+        match nth_number(rt, i + 1) {
             Argument::Number(n) => {
                 numbers[i] = n;
             }
@@ -90,7 +102,7 @@ fn size(n: u64) -> u32
 }
 
 // Writes the picture, or the number of the refusal to standard error.
-fn print(numbers: &[u64; ARGUMENTS]) {
+fn print(rt: &(impl Print + Eprint), numbers: &[u64; ARGUMENTS]) -> io::Result<()> {
     let mut picture = [0u8; PICTURE_MAX];
     match generator::generate(
         numbers[0],
@@ -101,25 +113,16 @@ fn print(numbers: &[u64; ARGUMENTS]) {
         size(numbers[5]),
         &mut picture,
     ) {
-        Writing::Length(length) => {
-            io::write_all(STDOUT_FILENO, &picture[..length]);
-        }
-        Writing::Refused(number) => {
-            io::write_all(STDERR_FILENO, b"refused ");
-            io::print_decimal(STDERR_FILENO, number as u64);
-            io::write_all(STDERR_FILENO, b"\n");
-        }
+        Writing::Length(length) => rt.write_all(&picture[..length]),
+        Writing::Refused(number) => eprintln!(rt; "refused {number}"),
     }
 }
 
-fn main() {
+fn main(rt: HostRuntime) -> io::Result<()> {
     let mut numbers = [0u64; ARGUMENTS];
-    if read_numbers(&mut numbers) {
-        print(&numbers);
+    if read_numbers(&rt, &mut numbers) {
+        print(&rt, &numbers)
     } else {
-        io::write_all(
-            STDERR_FILENO,
-            b"usage: generate SEED BLOCK_SIZE BLOCKS ENDPOINTS LINKS SERVICE_LINKS\n",
-        );
+        eprintln!(rt; "usage: generate SEED BLOCK_SIZE BLOCKS ENDPOINTS LINKS SERVICE_LINKS")
     }
 }
