@@ -20,6 +20,7 @@ pub enum Argument {
 }
 
 // Whether a byte is a digit that can follow a number: the number that they make has 64 bits.
+#[tactic(auto, using(crate::proofs::Arguments::below_digits, crate::proofs::Arguments::above_digits, crate::proofs::Arguments::digit_fits))]
 fn goes_on(n: u64, c: u8) -> bool
     ensures { result ≡ goes_on n c }
 {
