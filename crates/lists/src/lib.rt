@@ -1,3 +1,2 @@
 // Definitions over lists that the layers above share, and their laws. There is no code here.
 #![tactic(auto)]
-
