@@ -1,10 +1,11 @@
 -- The first fault of an act in the order in which it is judged, and what the act answers and leaves by it. Assumes nothing.
 use mathlib.Core.Path.{◌≡◌, refl, sym, ap, ◌∙◌}
 use mathlib.Core.Bool.{Bool, true, false, not}
-use mathlib.Core.Logic.{◌≢◌}
+use mathlib.Core.Logic.{◌≢◌, by_cases}
 use mathlib.Core.List.{List, [], ◌∷◌}
 use Prim.Native.Nat.{ℕ, ◌≤◌, ◌<◌}
 use native.Mathlib.Omega.{arith}
+use native.Mathlib.Decide.{dec_lt}
 use borrow.Author.Tests.{le-leb, lt-leb}
 use Rattle.lists.specs.Lists.{on, first, outcome}
 use Rattle.lists.proofs.Answers.{answer_refused, answer_numbers, answer_refusals}
@@ -16,7 +17,7 @@ use Rattle.weigh.specs.Weighing.{block_fault}
 use Rattle.acts.specs.declared.Act.{Act}
 use Rattle.acts.specs.declared.Acting.{Acting}
 use Rattle.acts.specs.declared.Acting.TheVariants.{Done, Refused}
-use Rattle.acts.proofs.Judged.{done_bytes_lem as done-writes, refused_bytes as refused_stays}
+use Rattle.acts.proofs.Judged.{done_bytes_lem as done_writes, refused_bytes as refused_stays}
 use Rattle.acts.specs.Faults.{changes, cut_fault, near_fault, act_fault}
 use Rattle.acts.specs.Answers.{act_bytes, acting_of, acting, acting_numbers}
 use Rattle.acts.specs.Acts.{done_bytes}
@@ -70,7 +71,14 @@ module _ (a : Act) (bs : List ℕ) (b : ℕ) where
   done_answer k z e = ap acting_of (sym z ∙ e)
 
   pub done_bytes_lem : (k : ℕ) → k ≡ 0 → k ≡ act_fault a bs b → done_bytes a bs b ≡ act_bytes a bs b
-  done_bytes_lem k z e = sym (done-writes a bs b (sym e ∙ z))
+  done_bytes_lem k z e = sym (done_writes a bs b (sym e ∙ z))
+
+  -- and its block is one of the picture's
+  pub done_block : picture_fault bs ≡ 0 → (k : ℕ) → k ≡ 0 → k ≡ act_fault a bs b → b < block_count (picture_of bs)
+  done_block z k o e = by_cases (dec_lt b (block_count (picture_of bs))) (λ l. l) (λ g. absurd (never (no_block z (omega arith) ∙ sym e ∙ o)))
+    where
+      never : ◌≡◌ {A = ℕ} 8 0 → ⊥
+      never q = omega arith
 
 -- ---- the numbers of the answer
 
