@@ -4,7 +4,7 @@
  * A picture is the state of one relay's network as bytes. Evidence says which block was chosen and why. The library is proved: on every input
  * each call ends, reads and writes inside its buffers and lists only, and gives the answer that docs/FORMAT.md fixes. That page has formats, words
  * and numbers in full, with an example byte by byte; it follows the scope document, "01" below. Link with libblockplan_c.a (x86-64, System V
- * calls), which `rt staticlib blockplan_c` makes; besides the seven calls it names only memcpy and memset.
+ * calls), which `rt lib` in crates/blockplan_c makes; besides the seven calls it names only memcpy and memset.
  *
  * WORDS. Location 0 is the origin (01: the office); locations 1 to n are slots, in blocks of so many slots each, counted from 0. Links lead from
  * location to location, service links (01: serving links) from a location to an endpoint (01: a cab). A slot is held, recoverable or freed; near
