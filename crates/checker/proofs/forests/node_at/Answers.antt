@@ -56,14 +56,6 @@ bytes-both-requires c = let f = few_bytes (goal.at.bytes-both-requires c).After-
 pub overflow_shr-result : goal.overflow_shr-result
 overflow_shr-result c = omega (arith, (small (goal.at.overflow_shr-result c).After-node_bits-size).bits)
 
--- ?? no goal for shl-t10 : overflow-shl-t10
--- shl-t10 : tie.Need-overflow-shl-t10
--- shl-t10 c = omega (arith, (small c.before).bits)
-
--- ?? no goal for sub-t9 : overflow-sub-t9
--- sub-t9 : tie.Need-overflow-sub-t9
--- sub-t9 c = mask_made _ (omega (arith, (small c.before).bits))
-
 pub returns : goal.returns
 unfolding node_from node_at node_widths link_at
 returns c =

@@ -60,10 +60,6 @@ returns-then-n-parent c = node_parent_out _ _ _ _ (handed (goal.at.returns-then-
 pub offset_bounds-links-parent : goal.offset_bounds-links-parent
 offset_bounds-links-parent c = omega (arith, most (goal.at.offset_bounds-links-parent c).Start, c.if-n-parent.false)
 
--- ?? no goal for index-1-has : bounds-1-has
--- index-1-has : tie.Need-bounds-1-has
--- index-1-has c = omega (arith, most (start c.before), c.if3.false)
-
 pub has-linked-requires : goal.has-linked-requires
 has-linked-requires c = omega (arith, most (goal.at.has-linked-requires c).Start, c.requires.links_len.2)
 
