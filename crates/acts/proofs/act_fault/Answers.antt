@@ -32,13 +32,16 @@ pub changes-some-requires : goal.changes-some-requires
 changes-some-requires c = (c.requires, there (goal.at.changes-some-requires c).Else-h-b)
 
 pub returns-then-not-some : goal.returns-then-not-some
-returns-then-not-some c = no_change _ _ _ c.requires.accepted (there (goal.at.returns-then-not-some c).Else-h-b) (sym c.changes-some.ensures ∙ c.if-not-some.true)
+returns-then-not-some c =
+    no_change _ _ _ c.requires.accepted (there (goal.at.returns-then-not-some c).Else-h-b) (sym c.changes-some.ensures ∙ c.if-not-some.true)
 
 pub cut_fault-cut-requires : goal.cut_fault-cut-requires
 cut_fault-cut-requires c = (c.requires, there (goal.at.cut_fault-cut-requires c).Else-h-b)
 
 pub returns-then-cut-ne0 : goal.returns-then-cut-ne0
-returns-then-cut-ne0 c = cuts _ _ _ c.requires.accepted (there (goal.at.returns-then-cut-ne0 c).Else-h-b) (changing (goal.at.returns-then-cut-ne0 c).Else-not-some) _ c.if-cut-ne0.true c.cut_fault-cut.ensures
+returns-then-cut-ne0 c =
+    cuts _ _ _ c.requires.accepted (there (goal.at.returns-then-cut-ne0 c).Else-h-b) (changing (goal.at.returns-then-cut-ne0 c).Else-not-some)
+    _ c.if-cut-ne0.true c.cut_fault-cut.ensures
 
 pub near_fault-requires : goal.near_fault-requires
 near_fault-requires c = (c.requires, there (goal.at.near_fault-requires c).Else-h-b)
@@ -46,4 +49,5 @@ near_fault-requires c = (c.requires, there (goal.at.near_fault-requires c).Else-
 pub returns : goal.returns
 returns c =
     let z = c.requires.accepted in
-    cuts_none _ _ _ z (there (goal.at.returns c).Else-h-b) (changing (goal.at.returns c).Else-not-some) _ _ c.if-cut-ne0.false c.cut_fault-cut.ensures c.near_fault.ensures
+    cuts_none _ _ _ z (there (goal.at.returns c).Else-h-b) (changing (goal.at.returns c).Else-not-some)
+    _ _ c.if-cut-ne0.false c.cut_fault-cut.ensures c.near_fault.ensures

@@ -24,7 +24,9 @@ pub overflow_add-k : goal.overflow_add-k
 overflow_add-k c = omega (arith, (read_limited _ _ c.requires.0).slots)
 
 pub returns-then-is_added_near : goal.returns-then-is_added_near
-returns-then-is_added_near c = some_found _ 1 c.loop-k.k _ (omega (arith, read_slots _ _ c.requires.0)) (look (goal.at.returns-then-is_added_near c).After-is_added_near ∙ c.if-is_added_near.true)
+returns-then-is_added_near c =
+    some_found _ 1 c.loop-k.k _ (omega (arith, read_slots _ _ c.requires.0))
+    (look (goal.at.returns-then-is_added_near c).After-is_added_near ∙ c.if-is_added_near.true)
 
 pub overflow_add-k-in-loop-k : goal.overflow_add-k-in-loop-k
 overflow_add-k-in-loop-k c = omega (arith, (read_limited _ _ c.requires.0).slots)

@@ -18,7 +18,8 @@ mark c = ap (λ (w : Weights). w.mark) c.weigh_block.ensures
 
 pub returns-then-weigh_block-eq1 : goal.returns-then-weigh_block-eq1
 unfolding on cut_fault
-returns-then-weigh_block-eq1 c = ap (λ (t : Bool). on t 10) (sym (eq-eqb _ _ (sym (mark (goal.at.returns-then-weigh_block-eq1 c).After-weigh_block) ∙ c.if-weigh_block-eq1.true)))
+returns-then-weigh_block-eq1 c =
+    ap (λ (t : Bool). on t 10) (sym (eq-eqb _ _ (sym (mark (goal.at.returns-then-weigh_block-eq1 c).After-weigh_block) ∙ c.if-weigh_block-eq1.true)))
 
 pub returns : goal.returns
 unfolding on cut_fault

@@ -37,7 +37,9 @@ pub slot_state-state-requires : goal.slot_state-state-requires
 slot_state-state-requires c = (read_limited _ _ c.requires.0, omega arith, omega (arith, read_within _ _ c.requires.0 _ c.requires.1))
 
 pub returns-then-after-state : goal.returns-then-after-state
-returns-then-after-state c = some_found _ _ c.loop-k.k _ (omega arith) (look (goal.at.returns-then-after-state c).After-after ∙ ap not (ne_eqb _ _ c.if-after-state.true)) ∙ read_changes _ _ c.requires.0 _ _
+returns-then-after-state c =
+    some_found _ _ c.loop-k.k _ (omega arith) (look (goal.at.returns-then-after-state c).After-after ∙ ap not (ne_eqb _ _ c.if-after-state.true))
+    ∙ read_changes _ _ c.requires.0 _ _
 
 pub overflow_add-k : goal.overflow_add-k
 overflow_add-k c = omega (arith, read_within _ _ c.requires.0 _ c.requires.1)

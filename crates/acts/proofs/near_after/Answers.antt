@@ -36,7 +36,13 @@ loop-k-preserved c =
     record {
       within = omega arith;
       same =
-          elim c.if-is_near_after.branch [ then-is_near_after w ↦ w.count-is ∙ ap (λ (x : ℕ). x + 1) l.invariant.same ∙ sym (count_hit _ 1 l.k (look (goal.at.loop-k-preserved c).After-is_near_after ∙ w.if-is_near_after.true)) | else-is_near_after w ↦ w.count-is ∙ l.invariant.same ∙ sym (count_miss _ 1 l.k (look (goal.at.loop-k-preserved c).After-is_near_after ∙ w.if-is_near_after.false)) ];
+          elim c.if-is_near_after.branch [
+            | then-is_near_after w ↦
+                w.count-is ∙ ap (λ (x : ℕ). x + 1) l.invariant.same
+                ∙ sym (count_hit _ 1 l.k (look (goal.at.loop-k-preserved c).After-is_near_after ∙ w.if-is_near_after.true))
+            | else-is_near_after w ↦
+                w.count-is ∙ l.invariant.same ∙ sym (count_miss _ 1 l.k (look (goal.at.loop-k-preserved c).After-is_near_after ∙ w.if-is_near_after.false))
+          ];
     }
 
 pub returns : goal.returns

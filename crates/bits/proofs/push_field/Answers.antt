@@ -16,6 +16,8 @@ loop-left-preserved c =
 
 pub returns : goal.returns
 returns c =
-    let shifted : c.args.held * 2 ^ c.args.w % 2 ^ 64 ≡ c.args.held * 2 ^ c.args.w = shl_exact (c.args.p % 8) c.args.w 64 c.requires.few (omega (arith, c.requires.wide)) in
-    let joined : bit_or (c.args.held * 2 ^ c.args.w % 2 ^ 64) c.args.v ≡ c.args.held * 2 ^ c.args.w + c.args.v = rw shifted (or_shifted c.args.held c.args.w c.args.v c.requires.value) in
+    let shifted : c.args.held * 2 ^ c.args.w % 2 ^ 64 ≡ c.args.held * 2 ^ c.args.w =
+    shl_exact (c.args.p % 8) c.args.w 64 c.requires.few (omega (arith, c.requires.wide)) in
+    let joined : bit_or (c.args.held * 2 ^ c.args.w % 2 ^ 64) c.args.v ≡ c.args.held * 2 ^ c.args.w + c.args.v =
+    rw shifted (or_shifted c.args.held c.args.w c.args.v c.requires.value) in
     push_ended c.loop-left.invariant c.loop-left-test.false c.requires.value joined (masked _ _ (omega arith))

@@ -6,7 +6,8 @@ use Rattle.bits.proofs.put_bytes.Goals.{then-count-gt2, else-count-gt2}
 
 pub returns : goal.returns
 returns c =
-    let begun : Pushing c.args.s.now (c.args.k * 8) (c.args.count * 8) c.args.v c.args.s.now (c.args.count * 8) c.args.k = bytes_begun c.args.s.now c.args.k c.args.count c.args.v (λ j. grind arith) in
+    let begun : Pushing c.args.s.now (c.args.k * 8) (c.args.count * 8) c.args.v c.args.s.now (c.args.count * 8) c.args.k =
+    bytes_begun c.args.s.now c.args.k c.args.count c.args.v (λ j. grind arith) in
     let two_left : Pushing c.args.s.now (c.args.k * 8) (c.args.count * 8) c.args.v c.if-count-gt2.s 16 c.if-count-gt2.at =
     elim c.if-count-gt2.branch [
       | then-count-gt2 w ↦

@@ -7,4 +7,5 @@ use Rattle.blockplan_c.proofs.Numbers.{passed_on}
 use Rattle.blockplan_c.proofs.blockplan_check.Goals as goal
 
 pub returns : goal.returns
-returns c = (passed_on c.checking_number.ensures.fits (c.checking_number.ensures.number ∙ ap (λ (x : Checking). to_c (checking_numbers x)) c.check.ensures.answer)).0
+returns c =
+    (passed_on c.checking_number.ensures.fits (c.checking_number.ensures.number ∙ ap (λ (x : Checking). to_c (checking_numbers x)) c.check.ensures.answer)).0

@@ -15,5 +15,7 @@ returns-in-Passed c =
 pub returns-in-Refused : goal.returns-in-Refused
 unfolding to_c checking_numbers
 returns-in-Refused c =
-    let all = passed_on c.refusal.ensures.fits (c.refusal.ensures.number ∙ refused_number c.in-Refused.number ∙ sym (ap (λ (x : Checking). to_c (checking_numbers x)) c.in-Refused.is)) in
+    let all =
+    passed_on c.refusal.ensures.fits
+    (c.refusal.ensures.number ∙ refused_number c.in-Refused.number ∙ sym (ap (λ (x : Checking). to_c (checking_numbers x)) c.in-Refused.is)) in
     record { number = all.0; fits = all.1 }

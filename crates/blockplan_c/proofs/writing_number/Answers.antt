@@ -18,5 +18,7 @@ returns-in-Length c =
 pub returns-in-Refused : goal.returns-in-Refused
 unfolding to_c writing_numbers
 returns-in-Refused c =
-    let all = passed_on c.refusal.ensures.fits (c.refusal.ensures.number ∙ refused_number c.in-Refused.number ∙ sym (ap (λ (x : Writing). to_c (writing_numbers x)) c.in-Refused.is)) in
+    let all =
+    passed_on c.refusal.ensures.fits
+    (c.refusal.ensures.number ∙ refused_number c.in-Refused.number ∙ sym (ap (λ (x : Writing). to_c (writing_numbers x)) c.in-Refused.is)) in
     record { number = all.0; fits = all.1 }

@@ -53,7 +53,8 @@ counted c = c.parts_fault-fault.ensures.cuts_of c.if-fault-ne0.false
 judged : (c : After-verdict_right) → c.verdict_right.result ≡ verdict_right (evidence (goal.at.After-verdict_right c).After-form_of-f) (weighings (shown (goal.at.After-verdict_right c).After-form_of-f))
 judged c =
     c.verdict_right.ensures
-    ∙ ap (verdict_right (evidence (goal.at.After-verdict_right c).After-form_of-f)) (stated_weighings _ _ c.requires (formed (goal.at.After-verdict_right c).Else-not-right) (clean (goal.at.After-verdict_right c).Else-fault-ne0) (found (goal.at.After-verdict_right c).After-form_of-f).1 (counted (goal.at.After-verdict_right c).Else-fault-ne0))
+    ∙ ap (verdict_right (evidence (goal.at.After-verdict_right c).After-form_of-f))
+    (stated_weighings _ _ c.requires (formed (goal.at.After-verdict_right c).Else-not-right) (clean (goal.at.After-verdict_right c).Else-fault-ne0) (found (goal.at.After-verdict_right c).After-form_of-f).1 (counted (goal.at.After-verdict_right c).Else-fault-ne0))
 
 pub form_of-f-requires : goal.form_of-f-requires
 form_of-f-requires c = let r = c.requires in (read_limited _ _ r, read_sizes _ _ r)
@@ -62,10 +63,12 @@ pub returns-then-not-right : goal.returns-then-not-right
 returns-then-not-right c = check_form _ _ c.requires (sym (found (goal.at.returns-then-not-right c).After-form_of-f).0 ∙ c.if-not-right.true)
 
 pub parts_fault-fault-requires : goal.parts_fault-fault-requires
-parts_fault-fault-requires c = record { read = (c.requires, (_, c.slot_rows-rows.ensures), formed (goal.at.parts_fault-fault-requires c).Else-not-right, (found (goal.at.parts_fault-fault-requires c).After-form_of-f).1); cuts_len = refl }
+parts_fault-fault-requires c =
+    record { read = (c.requires, (_, c.slot_rows-rows.ensures), formed (goal.at.parts_fault-fault-requires c).Else-not-right, (found (goal.at.parts_fault-fault-requires c).After-form_of-f).1); cuts_len = refl }
 
 pub returns-then-fault-ne0 : goal.returns-then-fault-ne0
-returns-then-fault-ne0 c = check_part _ _ c.requires (formed (goal.at.returns-then-fault-ne0 c).Else-not-right) c.if-fault-ne0.true c.parts_fault-fault.ensures.value
+returns-then-fault-ne0 c =
+    check_part _ _ c.requires (formed (goal.at.returns-then-fault-ne0 c).Else-not-right) c.if-fault-ne0.true c.parts_fault-fault.ensures.value
 
 pub slice_bounds-verdict_right-end : goal.slice_bounds-verdict_right-end
 slice_bounds-verdict_right-end c = sym (counted (goal.at.slice_bounds-verdict_right-end c).Else-fault-ne0).many
@@ -77,7 +80,11 @@ verdict_right-requires c =
     (read_limited _ _ r, omega (arith, (found (goal.at.verdict_right-requires c).After-form_of-f).1, few), omega (arith, (found (goal.at.verdict_right-requires c).After-form_of-f).1, few, (counted (goal.at.verdict_right-requires c).Else-fault-ne0).many))
 
 pub returns-then-verdict_right : goal.returns-then-verdict_right
-returns-then-verdict_right c = check_none _ _ c.requires (formed (goal.at.returns-then-verdict_right c).Else-not-right) (clean (goal.at.returns-then-verdict_right c).Else-fault-ne0) (sym (judged (goal.at.returns-then-verdict_right c).After-verdict_right) ∙ c.if-verdict_right.true)
+returns-then-verdict_right c =
+    check_none _ _ c.requires (formed (goal.at.returns-then-verdict_right c).Else-not-right) (clean (goal.at.returns-then-verdict_right c).Else-fault-ne0)
+    (sym (judged (goal.at.returns-then-verdict_right c).After-verdict_right) ∙ c.if-verdict_right.true)
 
 pub returns : goal.returns
-returns c = check_verdict _ _ c.requires (formed (goal.at.returns c).Else-not-right) (clean (goal.at.returns c).Else-fault-ne0) (sym (judged (goal.at.returns c).After-verdict_right) ∙ c.if-verdict_right.false)
+returns c =
+    check_verdict _ _ c.requires (formed (goal.at.returns c).Else-not-right) (clean (goal.at.returns c).Else-fault-ne0)
+    (sym (judged (goal.at.returns c).After-verdict_right) ∙ c.if-verdict_right.false)

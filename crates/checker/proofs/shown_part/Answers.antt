@@ -18,7 +18,8 @@ passed c = sym c.evidence_fault-fault.ensures ∙ c.if-fault-ne0.false
 named : (c : After-section_named-i) → let a = c.args in
     c.section_named-i.result ≡ named_at a.s.now a.ev.now
 named c =
-    c.section_named-i.ensures ∙ rw c.head_of-head.ensures (named_section _ _ (passed (goal.at.After-section_named-i c).Else-fault-ne0) (accepted_read _ _ c.in-Accepted.ensures.answer))
+    c.section_named-i.ensures
+    ∙ rw c.head_of-head.ensures (named_section _ _ (passed (goal.at.After-section_named-i c).Else-fault-ne0) (accepted_read _ _ c.in-Accepted.ensures.answer))
 
 pub evidence_fault-fault-requires : goal.evidence_fault-fault-requires
 evidence_fault-fault-requires c = accepted_read _ _ c.in-Accepted.ensures.answer
@@ -30,10 +31,12 @@ pub returns-then-head-ne1 : goal.returns-then-head-ne1
 returns-then-head-ne1 c = sym (shown_none _ _ (rw (← c.head_of-head.ensures) c.if-head-ne1.true))
 
 pub section_named-i-requires : goal.section_named-i-requires
-section_named-i-requires c = (read_limited _ _ (accepted_read _ _ c.in-Accepted.ensures.answer), rw c.head_of-head.ensures (omega (arith, count_few _ _ (passed (goal.at.section_named-i-requires c).Else-fault-ne0))))
+section_named-i-requires c =
+    (read_limited _ _ (accepted_read _ _ c.in-Accepted.ensures.answer), rw c.head_of-head.ensures (omega (arith, count_few _ _ (passed (goal.at.section_named-i-requires c).Else-fault-ne0))))
 
 pub section_at-requires : goal.section_at-requires
-section_at-requires c = (read_limited _ _ (accepted_read _ _ c.in-Accepted.ensures.answer), omega (arith, named (goal.at.section_at-requires c).After-section_named-i, named_few _ _ (passed (goal.at.section_at-requires c).Else-fault-ne0)))
+section_at-requires c =
+    (read_limited _ _ (accepted_read _ _ c.in-Accepted.ensures.answer), omega (arith, named (goal.at.section_at-requires c).After-section_named-i, named_few _ _ (passed (goal.at.section_at-requires c).Else-fault-ne0)))
 
 pub section_bytes-requires : goal.section_bytes-requires
 section_bytes-requires c = read_limited _ _ (accepted_read _ _ c.in-Accepted.ensures.answer)
@@ -47,4 +50,5 @@ pub returns-else-head-ne1 : goal.returns-else-head-ne1
 returns-else-head-ne1 c =
     let r = accepted_read _ _ c.in-Accepted.ensures.answer in
     let one = rw c.head_of-head.ensures at c.if-head-ne1.false in
-    rw (c.section_bytes.ensures, c.section_at.ensures, named (goal.at.returns-else-head-ne1 c).After-section_named-i) (sym (rw (read_slots _ _ r, ← read_edition _ _ r) at (shown_part_lem _ _ (passed (goal.at.returns-else-head-ne1 c).Else-fault-ne0) one)))
+    rw (c.section_bytes.ensures, c.section_at.ensures, named (goal.at.returns-else-head-ne1 c).After-section_named-i)
+    (sym (rw (read_slots _ _ r, ← read_edition _ _ r) at (shown_part_lem _ _ (passed (goal.at.returns-else-head-ne1 c).Else-fault-ne0) one)))

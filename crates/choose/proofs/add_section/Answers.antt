@@ -21,7 +21,9 @@ walk_without-forest-requires c = let p = c.requires in slots_only_lem p.rows.rea
 
 -- the walk without the block
 rest : (c : After-walk_without-forest) → let a = c.args in
-    let r = c.walk_without-forest.result in Walked (linked_in a.links.now) (without (block_range a.h.block_size a.b) (held_in a.held)) (marked r.reached) r.parent r.depth
+    let r =
+    c.walk_without-forest.result in Walked (linked_in a.links.now) (without (block_range a.h.block_size a.b) (held_in a.held)) (marked r.reached)
+    r.parent r.depth
 rest c = rw c.block_range.ensures at c.walk_without-forest.ensures
 
 pub lost_between-lost-requires : goal.lost_between-lost-requires
@@ -42,7 +44,9 @@ pub put_section-requires : goal.put_section-requires
 put_section-requires c =
     let p = c.requires in
     let cost = lost_cost p.rows _ p.slots (rest (goal.at.put_section-requires c).After-walk_without-forest) c.lost_between-lost.ensures in
-    section_fits p.rows cost p.block p.room (parents (goal.at.put_section-requires c).After-lost_between-lost) (depths (goal.at.put_section-requires c).After-lost_between-lost) (left_nodes p.rows _ p.slots (rest (goal.at.put_section-requires c).After-walk_without-forest) c.lost_between-lost.ensures)
+    section_fits p.rows cost p.block p.room (parents (goal.at.put_section-requires c).After-lost_between-lost)
+    (depths (goal.at.put_section-requires c).After-lost_between-lost)
+    (left_nodes p.rows _ p.slots (rest (goal.at.put_section-requires c).After-walk_without-forest) c.lost_between-lost.ensures)
 
 pub returns : goal.returns
 returns c =

@@ -34,7 +34,14 @@ loop-b-preserved c =
     let f = block_marked a.near a.size in
     let b = c.loop-b.b in (
       omega arith,
-      elim c.if-is_candidate.branch [ then-is_candidate w ↦ omega (arith, w.count-is, c.loop-b.invariant.1, count_hit f 0 b (sym (here (goal.at.loop-b-preserved c).After-is_candidate) ∙ w.if-is_candidate.true)) | else-is_candidate w ↦ omega (arith, w.count-is, c.loop-b.invariant.1, count_miss f 0 b (sym (here (goal.at.loop-b-preserved c).After-is_candidate) ∙ w.if-is_candidate.false)) ],
+      elim c.if-is_candidate.branch [
+        | then-is_candidate w ↦
+            omega
+            (arith, w.count-is, c.loop-b.invariant.1, count_hit f 0 b (sym (here (goal.at.loop-b-preserved c).After-is_candidate) ∙ w.if-is_candidate.true))
+        | else-is_candidate w ↦
+            omega
+            (arith, w.count-is, c.loop-b.invariant.1, count_miss f 0 b (sym (here (goal.at.loop-b-preserved c).After-is_candidate) ∙ w.if-is_candidate.false))
+      ],
     )
 
 pub returns : goal.returns

@@ -38,5 +38,7 @@ returns c =
     record {
       slots = c.slot_rows-slots.ensures;
       counted = counted (goal.at.returns c).After-count_candidates-count;
-      long = rw (c.evidence_bytes-length.ensures, ← read_slots _ _ c.requires, ← read_edition _ _ c.requires, counted (goal.at.returns c).After-count_candidates-count);
+      long =
+          rw
+          (c.evidence_bytes-length.ensures, ← read_slots _ _ c.requires, ← read_edition _ _ c.requires, counted (goal.at.returns c).After-count_candidates-count);
     }

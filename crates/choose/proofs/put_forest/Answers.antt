@@ -24,7 +24,8 @@ put_next-requires c =
     (p.depth v below)
 
 pub loop-v-preserved : goal.loop-v-preserved
-loop-v-preserved c = (omega (arith, c.loop-v-test.true), nodes_next _ _ c.args.h.edition c.args.at c.loop-v.v c.requires.limited.known c.loop-v.invariant.1 c.put_next.ensures)
+loop-v-preserved c =
+    (omega (arith, c.loop-v-test.true), nodes_next _ _ c.args.h.edition c.args.at c.loop-v.v c.requires.limited.known c.loop-v.invariant.1 c.put_next.ensures)
 
 pub shape_of-buf : goal.shape_of-buf
 shape_of-buf c = c.loop-v.invariant.1.long

@@ -18,4 +18,5 @@ joined c =
 pub returns : goal.returns
 returns c =
     let p = c.requires in
-    rw (rw (joined (goal.at.returns c).Start, p.whole) at c.put_bytes.ensures) (put_both _ _ _ _ _ _ p.parent_fits p.depth_fits (omega (arith, p.room, p.whole)))
+    rw (rw (joined (goal.at.returns c).Start, p.whole) at c.put_bytes.ensures)
+    (put_both _ _ _ _ _ _ p.parent_fits p.depth_fits (omega (arith, p.room, p.whole)))

@@ -31,7 +31,9 @@ candidate c bs r s = c.is_candidate.ensures ∙ marked_candidate s (read_block_s
 room : (c : Then-is_candidate) → Room c.args.h c.loop-b.q 1 c.loop-b.buf
 room c =
     let p = c.requires in
-    let fewer = below_fewer _ _ (sym (candidate (goal.at.Then-is_candidate c).After-is_candidate _ p.rows.read p.slots) ∙ c.if-is_candidate.true) (below (goal.at.Then-is_candidate c).In-loop-b) in
+    let fewer =
+    below_fewer _ _ (sym (candidate (goal.at.Then-is_candidate c).After-is_candidate _ p.rows.read p.slots) ∙ c.if-is_candidate.true)
+    (below (goal.at.Then-is_candidate c).In-loop-b) in
     room_more _ (read_known _ _ p.rows.read) _ (read_slots _ _ p.rows.read) (c.loop-b.invariant.done _ p.rows p.slots) fewer p.room
 
 pub nonzero_div-blocks : goal.nonzero_div-blocks

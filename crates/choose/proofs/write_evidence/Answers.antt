@@ -66,9 +66,11 @@ sections_start_lem c =
 
 -- the sections behind the first forest
 sectioned : (c : After-put_sections-c) → let s = c.put_sections-c in
-    Sectioned c.args.h.edition (picture_of (bytes (goal.at.After-put_sections-c c).After-walk-forest)) (sections_start c.args.h.edition c.args.h.slots) c.put_forest.new.buf s.new.buf s.result
+    Sectioned c.args.h.edition (picture_of (bytes (goal.at.After-put_sections-c c).After-walk-forest)) (sections_start c.args.h.edition c.args.h.slots)
+    c.put_forest.new.buf s.new.buf s.result
 sectioned c =
-    rw (sections_start_lem (goal.at.After-put_sections-c c).After-section_at-at) at (c.put_sections-c.ensures _ (rows (goal.at.After-put_sections-c c).After-walk-forest) c.requires.planned.slots)
+    rw (sections_start_lem (goal.at.After-put_sections-c c).After-section_at-at) at
+    (c.put_sections-c.ensures _ (rows (goal.at.After-put_sections-c c).After-walk-forest) c.requires.planned.slots)
 
 pub link_rows-requires : goal.link_rows-requires
 link_rows-requires c = (c.requires.read, clear_made locations_max)
@@ -90,7 +92,9 @@ put_forest-requires c =
     let r = c.requires.read in
     let p : length c.walk-forest.result.parent ≡ locations_max = search rules in
     let d : length c.walk-forest.result.depth ≡ locations_max = search rules in
-    forest_ready (rows (goal.at.put_forest-requires c).After-walk-forest) _ (omega (arith, fits (goal.at.put_forest-requires c).After-walk-forest, length_for_lem r)) (omega arith) p d (walked_nodes _ _ r (rows (goal.at.put_forest-requires c).After-walk-forest).now)
+    forest_ready (rows (goal.at.put_forest-requires c).After-walk-forest) _
+    (omega (arith, fits (goal.at.put_forest-requires c).After-walk-forest, length_for_lem r)) (omega arith) p d
+    (walked_nodes _ _ r (rows (goal.at.put_forest-requires c).After-walk-forest).now)
 
 pub section_at-at-requires : goal.section_at-at-requires
 section_at-at-requires c = (read_limited _ _ c.requires.read, omega arith)
@@ -103,11 +107,13 @@ put_sections-c-requires c =
 pub put_head-requires : goal.put_head-requires
 put_head-requires c =
     let p = c.requires in
-    head_fits p.read (sectioned (goal.at.put_head-requires c).After-put_sections-c).choice p.planned.counted (served (goal.at.put_head-requires c).After-lost_between-all)
+    head_fits p.read (sectioned (goal.at.put_head-requires c).After-put_sections-c).choice p.planned.counted
+    (served (goal.at.put_head-requires c).After-lost_between-all)
     (omega (arith, fits (goal.at.put_head-requires c).After-walk-forest, c.put_forest.ensures.long, (sectioned (goal.at.put_head-requires c).After-put_sections-c).put.long))
 
 pub returns : goal.returns
 returns c =
     let first = put_same c.put_forest.ensures (sym head_whole) refl in
-    evidence_written (rows (goal.at.returns c).After-walk-forest) first (sectioned (goal.at.returns c).After-put_sections-c) c.put_head.ensures c.requires.planned.counted (served (goal.at.returns c).After-lost_between-all) (fits (goal.at.returns c).After-walk-forest)
+    evidence_written (rows (goal.at.returns c).After-walk-forest) first (sectioned (goal.at.returns c).After-put_sections-c)
+    c.put_head.ensures c.requires.planned.counted (served (goal.at.returns c).After-lost_between-all) (fits (goal.at.returns c).After-walk-forest)
     (λ j. search rules) (λ j. search rules)

@@ -26,16 +26,23 @@ returns-then-not-sizes c = tells _ (ap not (sym c.sizes_right-sizes.ensures ∙ 
 
 pub returns-then-not-counts : goal.returns-then-not-counts
 unfolding asked_faults
-returns-then-not-counts c = tells _ (ap not (sym c.counts_right-counts.ensures ∙ c.if-not-counts.true)) ∙ past_sizes (goal.at.returns-then-not-counts c).Else-not-sizes
+returns-then-not-counts c =
+    tells _ (ap not (sym c.counts_right-counts.ensures ∙ c.if-not-counts.true)) ∙ past_sizes (goal.at.returns-then-not-counts c).Else-not-sizes
 
 pub returns-then-service_links-ne0 : goal.returns-then-service_links-ne0
 unfolding asked_faults
-returns-then-service_links-ne0 c = tells [] (ap₂ ◌&&◌ (eq-eqb _ 0 c.if-endpoints-eq0.true) (ap not (ne_eqb _ 0 c.if-service_links-ne0.true))) ∙ past_counts (goal.at.returns-then-service_links-ne0 c).Else-not-counts
+returns-then-service_links-ne0 c =
+    tells [] (ap₂ ◌&&◌ (eq-eqb _ 0 c.if-endpoints-eq0.true) (ap not (ne_eqb _ 0 c.if-service_links-ne0.true)))
+    ∙ past_counts (goal.at.returns-then-service_links-ne0 c).Else-not-counts
 
 pub returns-else-service_links-ne0 : goal.returns-else-service_links-ne0
 unfolding asked_faults first
-returns-else-service_links-ne0 c = passes 4 [] (ap₂ ◌&&◌ (eq-eqb _ 0 c.if-endpoints-eq0.true) (ap not (eq-eqb _ 0 c.if-service_links-ne0.false))) ∙ past_counts (goal.at.returns-else-service_links-ne0 c).Else-not-counts
+returns-else-service_links-ne0 c =
+    passes 4 [] (ap₂ ◌&&◌ (eq-eqb _ 0 c.if-endpoints-eq0.true) (ap not (eq-eqb _ 0 c.if-service_links-ne0.false)))
+    ∙ past_counts (goal.at.returns-else-service_links-ne0 c).Else-not-counts
 
 pub returns-else-endpoints-eq0 : goal.returns-else-endpoints-eq0
 unfolding asked_faults first
-returns-else-endpoints-eq0 c = passes 4 [] (ap (λ (b : Bool). b && not (eqb c.args.h.service_links 0)) (ne_eqb _ 0 c.if-endpoints-eq0.false)) ∙ past_counts (goal.at.returns-else-endpoints-eq0 c).Else-not-counts
+returns-else-endpoints-eq0 c =
+    passes 4 [] (ap (λ (b : Bool). b && not (eqb c.args.h.service_links 0)) (ne_eqb _ 0 c.if-endpoints-eq0.false))
+    ∙ past_counts (goal.at.returns-else-endpoints-eq0 c).Else-not-counts

@@ -62,14 +62,19 @@ overflow_mul-slots c = record { fits = halves_fit (omega (arith, c.ranges.block_
 
 pub returns-then-number-ne0 : goal.returns-then-number-ne0
 unfolding generate_fault
-returns-then-number-ne0 c = fills_faulty (asked_faults (asked (goal.at.returns-then-number-ne0 c).After-edition_for)) c.if-number-ne0.true (judged (goal.at.returns-then-number-ne0 c).After-asked_fault-number)
+returns-then-number-ne0 c =
+    fills_faulty (asked_faults (asked (goal.at.returns-then-number-ne0 c).After-edition_for)) c.if-number-ne0.true
+    (judged (goal.at.returns-then-number-ne0 c).After-asked_fault-number)
 
 pub size_of-size-requires : goal.size_of-size-requires
-size_of-size-requires c = subst Limited (sym (same (goal.at.size_of-size-requires c).After-edition_for)) (limited (goal.at.size_of-size-requires c).Else-number-ne0)
+size_of-size-requires c =
+    subst Limited (sym (same (goal.at.size_of-size-requires c).After-edition_for)) (limited (goal.at.size_of-size-requires c).Else-number-ne0)
 
 pub returns-then-buf-size : goal.returns-then-buf-size
 unfolding generate_fault
-returns-then-buf-size c = fills_short (asked_faults (asked (goal.at.returns-then-buf-size c).After-edition_for)) (clean (goal.at.returns-then-buf-size c).Else-number-ne0) (omega (arith, c.if-buf-size.true, size (goal.at.returns-then-buf-size c).After-size_of-size))
+returns-then-buf-size c =
+    fills_short (asked_faults (asked (goal.at.returns-then-buf-size c).After-edition_for)) (clean (goal.at.returns-then-buf-size c).Else-number-ne0)
+    (omega (arith, c.if-buf-size.true, size (goal.at.returns-then-buf-size c).After-size_of-size))
 
 pub put_generated-requires : goal.put_generated-requires
 unfolding asked_header
@@ -81,5 +86,6 @@ pub returns : goal.returns
 unfolding generate_fault
 returns c =
     let a = c.args in
-    fills_made (asked_faults (asked (goal.at.returns c).After-edition_for)) (clean (goal.at.returns c).Else-number-ne0) (omega (arith, c.if-buf-size.false, size (goal.at.returns c).After-size_of-size)) (size (goal.at.returns c).After-size_of-size)
+    fills_made (asked_faults (asked (goal.at.returns c).After-edition_for)) (clean (goal.at.returns c).Else-number-ne0)
+    (omega (arith, c.if-buf-size.false, size (goal.at.returns c).After-size_of-size)) (size (goal.at.returns c).After-size_of-size)
     (subst (λ (h : Header). c.put_generated.new.buf ≡ generated_picture a.seed h ++ drop (size_of h) a.buf.now) (same (goal.at.returns c).After-edition_for) c.put_generated.ensures)

@@ -28,19 +28,28 @@ begun c =
 
 slots : (c : After-push_rows-slots) → let a = c.args in
     Stage a.seed (a.h.slots * 2) (endpoints_at a.h) a.buf.now c.push_rows-slots.new.buf c.push_rows-slots.result
-slots c = stage_next (begun (goal.at.After-push_rows-slots c).After-slots_at) c.push_rows-slots.ensures (zero-add _) (slots_to (ready (goal.at.After-push_rows-slots c).After-slots_at))
+slots c =
+    stage_next (begun (goal.at.After-push_rows-slots c).After-slots_at) c.push_rows-slots.ensures (zero-add _)
+    (slots_to (ready (goal.at.After-push_rows-slots c).After-slots_at))
 
 endpoints : (c : After-push_rows-endpoints) → let a = c.args in
     Stage a.seed (a.h.slots * 2 + a.h.endpoints * 2) (links_at a.h) a.buf.now c.push_rows-endpoints.new.buf c.push_rows-endpoints.result
-endpoints c = stage_next (slots (goal.at.After-push_rows-endpoints c).After-push_rows-slots) c.push_rows-endpoints.ensures refl (endpoints_to (ready (goal.at.After-push_rows-endpoints c).After-slots_at))
+endpoints c =
+    stage_next (slots (goal.at.After-push_rows-endpoints c).After-push_rows-slots) c.push_rows-endpoints.ensures refl
+    (endpoints_to (ready (goal.at.After-push_rows-endpoints c).After-slots_at))
 
 links : (c : After-push_rows-links) → let a = c.args in
     Stage a.seed (a.h.slots * 2 + a.h.endpoints * 2 + a.h.links * 2) (service_links_at a.h) a.buf.now c.push_rows-links.new.buf c.push_rows-links.result
-links c = stage_next (endpoints (goal.at.After-push_rows-links c).After-push_rows-endpoints) c.push_rows-links.ensures refl (links_to (ready (goal.at.After-push_rows-links c).After-slots_at))
+links c =
+    stage_next (endpoints (goal.at.After-push_rows-links c).After-push_rows-endpoints) c.push_rows-links.ensures refl
+    (links_to (ready (goal.at.After-push_rows-links c).After-slots_at))
 
 services : (c : After-push_rows-end) → let a = c.args in
-    Stage a.seed (a.h.slots * 2 + a.h.endpoints * 2 + a.h.links * 2 + a.h.service_links * 2) (end_at a.h) a.buf.now c.push_rows-end.new.buf c.push_rows-end.result
-services c = stage_next (links (goal.at.After-push_rows-end c).After-push_rows-links) c.push_rows-end.ensures refl (services_to (ready (goal.at.After-push_rows-end c).After-slots_at))
+    Stage a.seed (a.h.slots * 2 + a.h.endpoints * 2 + a.h.links * 2 + a.h.service_links * 2) (end_at a.h)
+    a.buf.now c.push_rows-end.new.buf c.push_rows-end.result
+services c =
+    stage_next (links (goal.at.After-push_rows-end c).After-push_rows-links) c.push_rows-end.ensures refl
+    (services_to (ready (goal.at.After-push_rows-end c).After-slots_at))
 
 pub overflow_add-location : goal.overflow_add-location
 overflow_add-location c = record { fits = omega (arith, (location_roomy c.requires).most) }
@@ -58,27 +67,33 @@ slots_at-requires c = (ready_limited c.requires).known
 pub push_rows-slots-requires : goal.push_rows-slots-requires
 push_rows-slots-requires c =
     let r = ready (goal.at.push_rows-slots-requires c).After-slots_at in
-    stage_fits (begun (goal.at.push_rows-slots-requires c).After-slots_at) r (lit≤ tt) (λ _. record { some = lit≤ tt; most = lit≤ tt }) (λ _. record { some = lit≤ tt; most = lit≤ tt })
+    stage_fits (begun (goal.at.push_rows-slots-requires c).After-slots_at) r (lit≤ tt) (λ _. record { some = lit≤ tt; most = lit≤ tt })
+    (λ _. record { some = lit≤ tt; most = lit≤ tt })
     (omega (arith, slots_to r, ordered _ (ready_limited r)))
 
 pub push_rows-endpoints-requires : goal.push_rows-endpoints-requires
 push_rows-endpoints-requires c =
     let r = ready (goal.at.push_rows-endpoints-requires c).After-slots_at in
-    stage_fits (slots (goal.at.push_rows-endpoints-requires c).After-push_rows-slots) r (lit≤ tt) (λ _. record { some = lit≤ tt; most = lit≤ tt }) (λ _. record { some = lit≤ tt; most = lit≤ tt })
+    stage_fits (slots (goal.at.push_rows-endpoints-requires c).After-push_rows-slots) r (lit≤ tt) (λ _. record { some = lit≤ tt; most = lit≤ tt })
+    (λ _. record { some = lit≤ tt; most = lit≤ tt })
     (omega (arith, endpoints_to r, ordered _ (ready_limited r)))
 
 pub push_rows-links-requires : goal.push_rows-links-requires
 push_rows-links-requires c =
     let r = ready (goal.at.push_rows-links-requires c).After-slots_at in
-    stage_fits (endpoints (goal.at.push_rows-links-requires c).After-push_rows-endpoints) r (lit≤ tt) (λ _. location_roomy r) (λ _. location_roomy r) (omega (arith, links_to r, ordered _ (ready_limited r)))
+    stage_fits (endpoints (goal.at.push_rows-links-requires c).After-push_rows-endpoints) r (lit≤ tt) (λ _. location_roomy r) (λ _. location_roomy r)
+    (omega (arith, links_to r, ordered _ (ready_limited r)))
 
 pub push_rows-end-requires : goal.push_rows-end-requires
 push_rows-end-requires c =
     let r = ready (goal.at.push_rows-end-requires c).After-slots_at in
-    stage_fits (links (goal.at.push_rows-end-requires c).After-push_rows-links) r (lit≤ tt) (λ _. location_roomy r) (endpoint_roomy r) (omega (arith, services_to r))
+    stage_fits (links (goal.at.push_rows-end-requires c).After-push_rows-links) r (lit≤ tt) (λ _. location_roomy r) (endpoint_roomy r)
+    (omega (arith, services_to r))
 
 pub push_fill-requires : goal.push_fill-requires
-push_fill-requires c = fill_room (ready_makes (ready (goal.at.push_fill-requires c).After-slots_at) c.args.seed) (services (goal.at.push_fill-requires c).After-push_rows-end).long (services (goal.at.push_fill-requires c).After-push_rows-end).at (services (goal.at.push_fill-requires c).After-push_rows-end).few
+push_fill-requires c =
+    fill_room (ready_makes (ready (goal.at.push_fill-requires c).After-slots_at) c.args.seed) (services (goal.at.push_fill-requires c).After-push_rows-end).long
+    (services (goal.at.push_fill-requires c).After-push_rows-end).at (services (goal.at.push_fill-requires c).After-push_rows-end).few
 
 pub returns : goal.returns
 unfolding generated_picture generated

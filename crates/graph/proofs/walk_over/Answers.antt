@@ -22,4 +22,7 @@ differ-reached-requires c = (held_narrow c.loop-d.invariant, c.loop-d.invariant.
 pub returns : goal.returns
 returns c =
     ended c.loop-d.invariant (search rules) c.differ-reached.ensures
-    (elim c.loop-d-test.branch [ else-loop-d-test w ↦ inr (omega arith) | then-loop-d-test+then-none_marked w ↦ inl (w.none_marked.ensures.empty (rw w.if-none_marked.true tt)) ])
+    (elim c.loop-d-test.branch [
+      | else-loop-d-test w ↦ inr (omega arith)
+      | then-loop-d-test+then-none_marked w ↦ inl (w.none_marked.ensures.empty (rw w.if-none_marked.true tt))
+    ])

@@ -26,7 +26,8 @@ accepted c = accepted_read _ _ c.in-Accepted.ensures.answer
 -- the evidence has room
 fits : (c : After-make_plan-p) → c.make_plan-p.result.length ≤ length (replicate {A = ℕ} evidence_max 0)
 fits c =
-    omega (arith, c.make_plan-p.ensures.long, length_most c.args.s.now (accepted (goal.at.After-make_plan-p c).In-Accepted).accepted, length-replicate {A = ℕ} evidence_max 0)
+    omega
+    (arith, c.make_plan-p.ensures.long, length_most c.args.s.now (accepted (goal.at.After-make_plan-p c).In-Accepted).accepted, length-replicate {A = ℕ} evidence_max 0)
 
 -- the space up to the length is the evidence
 shown : (c : After-write_evidence) → Front (evidence_of c.args.s.now) c.make_plan-p.result.length c.write_evidence.new.buf
@@ -61,5 +62,7 @@ pub returns-in-Accepted : goal.returns-in-Accepted
 returns-in-Accepted c =
     let r = accepted_read _ _ c.in-Accepted.ensures.answer in
     let h = c.in-Accepted.h in
-    let all = text_whole c.put_lines.ensures (ap (evidence_lines h.edition h.slots) (shown (goal.at.returns-in-Accepted c).After-write_evidence).shown ∙ evidence_listed r) in
+    let all =
+    text_whole c.put_lines.ensures
+    (ap (evidence_lines h.edition h.slots) (shown (goal.at.returns-in-Accepted c).After-write_evidence).shown ∙ evidence_listed r) in
     record { size = all.0; bytes = all.1 }

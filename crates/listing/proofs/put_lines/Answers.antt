@@ -28,7 +28,9 @@ pub section_of-requires : goal.section_of-requires
 section_of-requires c = (c.requires.0, omega (arith, few (goal.at.section_of-requires c).At-loop-i))
 
 pub put_block_line-at-requires : goal.put_block_line-at-requires
-put_block_line-at-requires c = rw c.section_of.ensures (omega (arith, section_below c.args.ev.now c.args.h.edition c.args.h.slots c.loop-i.i, room (goal.at.put_block_line-at-requires c).At-loop-i))
+put_block_line-at-requires c =
+    rw c.section_of.ensures
+    (omega (arith, section_below c.args.ev.now c.args.h.edition c.args.h.slots c.loop-i.i, room (goal.at.put_block_line-at-requires c).At-loop-i))
 
 pub loop-i-preserved : goal.loop-i-preserved
 loop-i-preserved c = (omega arith, telling_next _ _ _ _ c.loop-i.invariant.1 (rw c.section_of.ensures at c.put_block_line-at.ensures))

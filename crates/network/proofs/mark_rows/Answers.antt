@@ -41,7 +41,8 @@ module _ (s : List ℕ) (h : Header) (r : Read s h) where
   link : (b : Bool) (i : ℕ) (l : Link) → b ≡ false → l ≡ get_or (picture_with h s).links i no_link → l ≡ get_or (marks_of b (picture_of s)) i no_link
   link b i l f e = rw (f, sym (read_picture s h r)) e
 
-  service : (b : Bool) (i : ℕ) (l : Link) → b ≡ true → l ≡ get_or (picture_with h s).service_links i no_link → turned l ≡ get_or (marks_of b (picture_of s)) i no_link
+  service : (b : Bool) (i : ℕ) (l : Link) → b ≡ true → l ≡ get_or (picture_with h s).service_links i no_link
+      → turned l ≡ get_or (marks_of b (picture_of s)) i no_link
   service b i l t e = rw (t, sym (read_picture s h r)) (ap turned e ∙ sym (get_or-map turned (picture_with h s).service_links i no_link))
 
 pub loop-i-init : goal.loop-i-init

@@ -69,9 +69,11 @@ pub loop-v-smaller : goal.loop-v-smaller
 loop-v-smaller c = omega (arith, small (goal.at.loop-v-smaller c).At-loop-v)
 
 pub loop-v-preserved : goal.loop-v-preserved
-loop-v-preserved c = record { some = omega arith; within = omega arith; read = c.loop-v.invariant.read; held = (looked (goal.at.loop-v-preserved c).Joined-is_held).0; near = (looked (goal.at.loop-v-preserved c).Joined-is_held).1 }
+loop-v-preserved c =
+    record { some = omega arith; within = omega arith; read = c.loop-v.invariant.read; held = (looked (goal.at.loop-v-preserved c).Joined-is_held).0; near = (looked (goal.at.loop-v-preserved c).Joined-is_held).1 }
 
 pub returns : goal.returns
 returns c =
     let l = c.loop-v in
-    slots_looked _ _ _ l.v (omega (arith, read_slots_length _ _ l.invariant.read)) (omega (arith, small (goal.at.returns c).At-loop-v)) l.invariant.held l.invariant.near
+    slots_looked _ _ _ l.v (omega (arith, read_slots_length _ _ l.invariant.read)) (omega (arith, small (goal.at.returns c).At-loop-v))
+    l.invariant.held l.invariant.near

@@ -44,11 +44,13 @@ returns-then-link-ne0 c = stop_at _ c.if-link-ne0.true c.links_fault-link.ensure
 
 pub returns-then-service-ne0 : goal.returns-then-service-ne0
 unfolding body_faults list_faults
-returns-then-service-ne0 c = stop_at _ c.if-service-ne0.true c.service_links_fault-service.ensures ∙ past_links (goal.at.returns-then-service-ne0 c).Else-link-ne0
+returns-then-service-ne0 c =
+    stop_at _ c.if-service-ne0.true c.service_links_fault-service.ensures ∙ past_links (goal.at.returns-then-service-ne0 c).Else-link-ne0
 
 pub returns-then-end_right : goal.returns-then-end_right
 unfolding body_faults list_faults
-returns-then-end_right c = end_at_lem ∙ passes 7 _ (ap not (sym c.end_right.ensures ∙ c.if-end_right.true)) ∙ past_services (goal.at.returns-then-end_right c).Else-service-ne0
+returns-then-end_right c =
+    end_at_lem ∙ passes 7 _ (ap not (sym c.end_right.ensures ∙ c.if-end_right.true)) ∙ past_services (goal.at.returns-then-end_right c).Else-service-ne0
 
 pub returns : goal.returns
 unfolding body_faults list_faults

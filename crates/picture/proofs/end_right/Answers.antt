@@ -54,4 +54,5 @@ returns-then-field-ne0 c = rw (ne_eqb _ _ (λ z. c.if-field-ne0.true (fill (goal
 
 pub returns : goal.returns
 unfolding end_right
-returns c = rw (eq-eqb _ _ (sym (fill (goal.at.returns c).After-field) ∙ c.if-field-ne0.false)) (ap (eqb _) (sized (goal.at.returns c).After-find_places-end).size)
+returns c =
+    rw (eq-eqb _ _ (sym (fill (goal.at.returns c).After-field) ∙ c.if-field-ne0.false)) (ap (eqb _) (sized (goal.at.returns c).After-find_places-end).size)

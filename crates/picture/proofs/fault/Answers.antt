@@ -36,7 +36,9 @@ number c = c.field.ensures
 
 past_edition : (c : Else-field-h) → Past 2 (goal.at.Else-field-h c).Start
 unfolding faults_with
-past_edition c = passes 2 _ (ap not (eq-eqb _ _ (sym (number (goal.at.Else-field-h c).After-field) ∙ c.if-field-h.false))) ∙ past_length (goal.at.Else-field-h c).Else-s-lt-LEAST_BYTES
+past_edition c =
+    passes 2 _ (ap not (eq-eqb _ _ (sym (number (goal.at.Else-field-h c).After-field) ∙ c.if-field-h.false)))
+    ∙ past_length (goal.at.Else-field-h c).Else-s-lt-LEAST_BYTES
 
 -- the test of the header's length
 asked : (c : After-slots_at) → ltb (length (bytes (goal.at.After-slots_at c).Start)) (header_bytes c.args.h.edition) ≡ ltb (length (bytes (goal.at.After-slots_at c).Start)) (c.slots_at.result / 8)
@@ -45,7 +47,8 @@ asked c = ap (λ (p : ℕ). ltb (length (bytes (goal.at.After-slots_at c).Start)
 
 past_header : (c : Else-s-slots_at) → Past 3 (goal.at.Else-s-slots_at c).Start
 unfolding faults_with
-past_header c = passes 1 _ (asked (goal.at.Else-s-slots_at c).After-slots_at ∙ le-ltb _ _ c.if-s-slots_at.false) ∙ past_edition (goal.at.Else-s-slots_at c).Else-field-h
+past_header c =
+    passes 1 _ (asked (goal.at.Else-s-slots_at c).After-slots_at ∙ le-ltb _ _ c.if-s-slots_at.false) ∙ past_edition (goal.at.Else-s-slots_at c).Else-field-h
 
 pub returns-then-s-lt-LEAST_BYTES : goal.returns-then-s-lt-LEAST_BYTES
 unfolding faults_with
@@ -53,11 +56,15 @@ returns-then-s-lt-LEAST_BYTES c = tells _ (lt-ltb _ _ c.if-s-lt-LEAST_BYTES.true
 
 pub returns-then-field-h : goal.returns-then-field-h
 unfolding faults_with
-returns-then-field-h c = tells _ (ap not (ne_eqb _ _ (λ z. c.if-field-h.true (number (goal.at.returns-then-field-h c).After-field ∙ z)))) ∙ past_length (goal.at.returns-then-field-h c).Else-s-lt-LEAST_BYTES
+returns-then-field-h c =
+    tells _ (ap not (ne_eqb _ _ (λ z. c.if-field-h.true (number (goal.at.returns-then-field-h c).After-field ∙ z))))
+    ∙ past_length (goal.at.returns-then-field-h c).Else-s-lt-LEAST_BYTES
 
 pub returns-then-s-slots_at : goal.returns-then-s-slots_at
 unfolding faults_with
-returns-then-s-slots_at c = tells _ (asked (goal.at.returns-then-s-slots_at c).After-slots_at ∙ lt-ltb _ _ c.if-s-slots_at.true) ∙ past_edition (goal.at.returns-then-s-slots_at c).Else-field-h
+returns-then-s-slots_at c =
+    tells _ (asked (goal.at.returns-then-s-slots_at c).After-slots_at ∙ lt-ltb _ _ c.if-s-slots_at.true)
+    ∙ past_edition (goal.at.returns-then-s-slots_at c).Else-field-h
 
 pub returns : goal.returns
 returns c = c.header_fault.ensures ∙ past_header (goal.at.returns c).Else-s-slots_at

@@ -59,5 +59,6 @@ unfolding places_of endpoints_at links_at service_links_at end_at slot_widths en
 returns c =
     let h = c.args.h in
     let w = h.edition.location_bits in
-    let at : ℕ → ℕ → Places = λ s v. let d = s + h.slots * 3 + h.endpoints * 17 in record { endpoints = s + h.slots * 3; links = d; service_links = d + h.links * (w + v); end = d + h.links * (w + v) + h.service_links * (w + 8) } in
+    let at : ℕ → ℕ → Places =
+    λ s v. let d = s + h.slots * 3 + h.endpoints * 17 in record { endpoints = s + h.slots * 3; links = d; service_links = d + h.links * (w + v); end = d + h.links * (w + v) + h.service_links * (w + 8) } in
     ap (λ (s : ℕ). at s w) c.slots_at.ensures ∙ ap (at (slots_at h.edition)) (sym (add-zero w))

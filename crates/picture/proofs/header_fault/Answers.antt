@@ -44,14 +44,16 @@ returns-then-not-sizes c = tells _ (ap not (sym c.sizes_right-sizes.ensures ∙ 
 
 pub returns-then-not-counts : goal.returns-then-not-counts
 unfolding faults_with
-returns-then-not-counts c = tells _ (ap not (sym c.counts_right-counts.ensures ∙ c.if-not-counts.true)) ∙ past_sizes (goal.at.returns-then-not-counts c).Else-not-sizes
+returns-then-not-counts c =
+    tells _ (ap not (sym c.counts_right-counts.ensures ∙ c.if-not-counts.true)) ∙ past_sizes (goal.at.returns-then-not-counts c).Else-not-sizes
 
 pub size_of-requires : goal.size_of-requires
 size_of-requires c = limited (goal.at.size_of-requires c).Else-not-counts
 
 pub returns-then-s-size_of : goal.returns-then-s-size_of
 unfolding faults_with
-returns-then-s-size_of c = tells _ (ap (ltb _) (sym c.size_of.ensures) ∙ lt-ltb _ _ c.if-s-size_of.true) ∙ past_counts (goal.at.returns-then-s-size_of c).Else-not-counts
+returns-then-s-size_of c =
+    tells _ (ap (ltb _) (sym c.size_of.ensures) ∙ lt-ltb _ _ c.if-s-size_of.true) ∙ past_counts (goal.at.returns-then-s-size_of c).Else-not-counts
 
 pub body_fault-requires : goal.body_fault-requires
 body_fault-requires c = limited (goal.at.body_fault-requires c).Else-not-counts

@@ -30,7 +30,9 @@ overflow_mul-i c = omega (arith, before (goal.at.overflow_mul-i c).After-find_pl
 
 pub overflow_add-find_places : goal.overflow_add-find_places
 unfolding places_of service_link_widths sum
-overflow_add-find_places c = omega (arith, before (goal.at.overflow_add-find_places c).After-find_places, ordered _ c.requires.0, ap (λ (p : Places). p.service_links) c.find_places.ensures)
+overflow_add-find_places c =
+    omega
+    (arith, before (goal.at.overflow_add-find_places c).After-find_places, ordered _ c.requires.0, ap (λ (p : Places). p.service_links) c.find_places.ensures)
 
 pub link_at-requires : goal.link_at-requires
 link_at-requires c = let p = c.requires in omega (arith, p.1, few _ p.0)

@@ -25,7 +25,9 @@ number c = rw c.header_of-h.ensures at c.fault-number.ensures
 pub returns-then-number-eq0 : goal.returns-then-number-eq0
 unfolding reading picture_fault header_of
 returns-then-number-eq0 c =
-    let all = told _ (ap Accepted c.header_of-h.ensures ∙ told_accepted _ (sym (number (goal.at.returns-then-number-eq0 c).After-fault-number) ∙ c.if-number-eq0.true)) in
+    let all =
+    told _
+    (ap Accepted c.header_of-h.ensures ∙ told_accepted _ (sym (number (goal.at.returns-then-number-eq0 c).After-fault-number) ∙ c.if-number-eq0.true)) in
     record { answer = all.0; numbers = all.1 }
 
 pub returns : goal.returns

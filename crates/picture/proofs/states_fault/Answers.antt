@@ -20,7 +20,8 @@ pub loop-i-init : goal.loop-i-init
 loop-i-init c = scanning_begun (slots_length _ _)
 
 pub returns-then-fault-ne0 : goal.returns-then-fault-ne0
-returns-then-fault-ne0 c = scanning_hit c.loop-i.invariant (omega arith) refl (fault (goal.at.returns-then-fault-ne0 c).After-state_fault-fault) c.if-fault-ne0.true
+returns-then-fault-ne0 c =
+    scanning_hit c.loop-i.invariant (omega arith) refl (fault (goal.at.returns-then-fault-ne0 c).After-state_fault-fault) c.if-fault-ne0.true
 
 pub loop-i-preserved : goal.loop-i-preserved
 loop-i-preserved c = scanning_miss c.loop-i.invariant (omega arith) refl (fault (goal.at.loop-i-preserved c).After-state_fault-fault) c.if-fault-ne0.false

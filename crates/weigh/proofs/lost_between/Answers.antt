@@ -20,7 +20,10 @@ sums_next : (c : Joined-lost) → let lost = c.is_lost-lost.result in
     (c.if-lost.sum / 256 ≡ c.loop-c.sum / 256 + on lost (get_or c.args.weights.now c.loop-c.c 0)) × (c.if-lost.sum % 256 ≡ c.loop-c.sum % 256 + on lost 1)
 sums_next c =
     let f = few (goal.at.Joined-lost c).At-loop-c in
-    elim c.if-lost.branch [ then-lost x ↦ (added_hit _ _ x.if-lost.true (rw x.sum-is (omega (arith, f))), added_hit _ _ x.if-lost.true (rw x.sum-is (omega (arith, f)))) | else-lost x ↦ (added_miss _ _ x.if-lost.false (rw x.sum-is), added_miss _ _ x.if-lost.false (rw x.sum-is)) ]
+    elim c.if-lost.branch [
+      | then-lost x ↦ (added_hit _ _ x.if-lost.true (rw x.sum-is (omega (arith, f))), added_hit _ _ x.if-lost.true (rw x.sum-is (omega (arith, f))))
+      | else-lost x ↦ (added_miss _ _ x.if-lost.false (rw x.sum-is), added_miss _ _ x.if-lost.false (rw x.sum-is))
+    ]
 
 -- a lost protected endpoint sets the mark
 mark_next : (c : Joined-is_lost_protected) → let hit : Bool = marked c.args.protected c.loop-c.c && c.is_lost-lost.result in
@@ -30,7 +33,10 @@ mark_next c =
     let mark = c.loop-c.mark in
     let set : Bool → ℕ = λ b. on b 1 + on (not b) mark in
     let hit = sym c.is_lost_protected.ensures in
-    elim c.if-is_lost_protected.branch [ then-is_lost_protected x ↦ ap set (hit ∙ x.if-is_lost_protected.true) ∙ sym x.mark-is | else-is_lost_protected x ↦ ap set (hit ∙ x.if-is_lost_protected.false) ∙ zero-add mark ∙ sym x.mark-is ]
+    elim c.if-is_lost_protected.branch [
+      | then-is_lost_protected x ↦ ap set (hit ∙ x.if-is_lost_protected.true) ∙ sym x.mark-is
+      | else-is_lost_protected x ↦ ap set (hit ∙ x.if-is_lost_protected.false) ∙ zero-add mark ∙ sym x.mark-is
+    ]
 
 pub loop-c-init : goal.loop-c-init
 loop-c-init c =
@@ -47,7 +53,8 @@ pub overflow_add-sum : goal.overflow_add-sum
 overflow_add-sum c = let l = c.loop-c in omega (arith, l.invariant.small.weight l.c)
 
 pub overflow_add-sum-then-lost : goal.overflow_add-sum-then-lost
-overflow_add-sum-then-lost c = omega (arith, few (goal.at.overflow_add-sum-then-lost c).At-loop-c, c.loop-c.invariant.picking.small, c.loop-c.invariant.small.weight c.loop-c.c)
+overflow_add-sum-then-lost c =
+    omega (arith, few (goal.at.overflow_add-sum-then-lost c).At-loop-c, c.loop-c.invariant.picking.small, c.loop-c.invariant.small.weight c.loop-c.c)
 
 pub loop-c-preserved : goal.loop-c-preserved
 loop-c-preserved c =
@@ -61,7 +68,8 @@ loop-c-preserved c =
       picking =
           picking_next _ _ _ _ _ l.c _ _ _ (omega (arith, test)) (omega (arith, test, l.invariant.within)) _ c.is_lost-lost.ensures _ _ l.invariant.picking
           (l.invariant.small.weight l.c)
-          (sums_next (goal.at.loop-c-preserved c).Joined-lost).0 (sums_next (goal.at.loop-c-preserved c).Joined-lost).1 (mark_next (goal.at.loop-c-preserved c).Joined-is_lost_protected);
+          (sums_next (goal.at.loop-c-preserved c).Joined-lost).0 (sums_next (goal.at.loop-c-preserved c).Joined-lost).1
+          (mark_next (goal.at.loop-c-preserved c).Joined-is_lost_protected);
     }
 
 pub returns : goal.returns

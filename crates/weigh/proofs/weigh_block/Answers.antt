@@ -46,9 +46,13 @@ now : (c : After-walk-before) → let r = c.walk-before.result in
 now c = now_walked c.slot_rows-slots.ensures (links c) c.walk-before.ensures
 
 left : (c : After-walk_without-after) → let r = c.walk_without-after.result in
-    Walked (joins (shown (goal.at.After-walk_without-after c).After-walk-before).links) (held_without (shown (goal.at.After-walk_without-after c).After-walk-before) (evicted (goal.at.After-walk_without-after c).After-walk-before)) (marked r.reached) r.parent r.depth
+    Walked (joins (shown (goal.at.After-walk_without-after c).After-walk-before).links)
+    (held_without (shown (goal.at.After-walk_without-after c).After-walk-before) (evicted (goal.at.After-walk_without-after c).After-walk-before))
+    (marked r.reached) r.parent r.depth
 left c =
-    left_walked c.slot_rows-slots.ensures (links (goal.at.After-walk_without-after c).After-walk-before) (evicted (goal.at.After-walk_without-after c).After-walk-before) (read_block_size _ _ c.requires.0) (rw c.block_range.ensures at c.walk_without-after.ensures)
+    left_walked c.slot_rows-slots.ensures (links (goal.at.After-walk_without-after c).After-walk-before)
+    (evicted (goal.at.After-walk_without-after c).After-walk-before) (read_block_size _ _ c.requires.0)
+    (rw c.block_range.ensures at c.walk_without-after.ensures)
 
 -- what the walks reach is in the words that the header's slots take
 narrow : (c : After-walk-before) → Narrow c.words_for-words.result c.walk-before.result.reached
@@ -59,10 +63,14 @@ narrow_left c =
     walk_narrow c.requires.0 c.slot_rows-slots.ensures _ c.words_for-words.ensures c.walk_without-after.ensures
 
 pub lost_between-all-requires : goal.lost_between-all-requires
-lost_between-all-requires c = sums_ready _ _ c.requires.0 c.service_link_rows.ensures c.endpoint_rows-protected.ensures (narrow (goal.at.lost_between-all-requires c).After-walk-before) (clear_narrow row_words (narrow (goal.at.lost_between-all-requires c).After-walk-before).most)
+lost_between-all-requires c =
+    sums_ready _ _ c.requires.0 c.service_link_rows.ensures c.endpoint_rows-protected.ensures (narrow (goal.at.lost_between-all-requires c).After-walk-before)
+    (clear_narrow row_words (narrow (goal.at.lost_between-all-requires c).After-walk-before).most)
 
 pub lost_between-lost-requires : goal.lost_between-lost-requires
-lost_between-lost-requires c = sums_ready _ _ c.requires.0 c.service_link_rows.ensures c.endpoint_rows-protected.ensures (narrow (goal.at.lost_between-lost-requires c).After-walk-before) (narrow_left (goal.at.lost_between-lost-requires c).After-walk_without-after)
+lost_between-lost-requires c =
+    sums_ready _ _ c.requires.0 c.service_link_rows.ensures c.endpoint_rows-protected.ensures (narrow (goal.at.lost_between-lost-requires c).After-walk-before)
+    (narrow_left (goal.at.lost_between-lost-requires c).After-walk_without-after)
 
 pub returns : goal.returns
 unfolding weights_of

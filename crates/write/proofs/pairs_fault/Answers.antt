@@ -17,10 +17,12 @@ pub loop-i-init : goal.loop-i-init
 loop-i-init c = scanning_begun (simp length-map)
 
 pub returns-then-fault-ne0 : goal.returns-then-fault-ne0
-returns-then-fault-ne0 c = scanning_hit c.loop-i.invariant (omega arith) (here (goal.at.returns-then-fault-ne0 c).After-link_at) c.pair_fault-fault.ensures c.if-fault-ne0.true
+returns-then-fault-ne0 c =
+    scanning_hit c.loop-i.invariant (omega arith) (here (goal.at.returns-then-fault-ne0 c).After-link_at) c.pair_fault-fault.ensures c.if-fault-ne0.true
 
 pub loop-i-preserved : goal.loop-i-preserved
-loop-i-preserved c = scanning_miss c.loop-i.invariant (omega arith) (here (goal.at.loop-i-preserved c).After-link_at) c.pair_fault-fault.ensures c.if-fault-ne0.false
+loop-i-preserved c =
+    scanning_miss c.loop-i.invariant (omega arith) (here (goal.at.loop-i-preserved c).After-link_at) c.pair_fault-fault.ensures c.if-fault-ne0.false
 
 pub returns : goal.returns
 returns c = scanning_ended c.loop-i.invariant (omega arith)

@@ -26,7 +26,8 @@ place : (c : In-loop-i) → Place c.args.at (sum endpoint_widths) c.loop-i.buf c
 place c = row_place c.requires.room c.loop-i.invariant (omega arith)
 
 pub loop-i-init : goal.loop-i-init
-loop-i-init c = rows_begun (endpoint_from 0 false) endpoint_fields (sum endpoint_widths) endpoint_span (length_zip endpoint_from _ _ c.requires.even) c.requires.room.few
+loop-i-init c =
+    rows_begun (endpoint_from 0 false) endpoint_fields (sum endpoint_widths) endpoint_span (length_zip endpoint_from _ _ c.requires.even) c.requires.room.few
 
 pub overflow_mul-i : goal.overflow_mul-i
 unfolding sum endpoint_widths

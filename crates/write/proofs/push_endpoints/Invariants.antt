@@ -10,7 +10,8 @@ use Rattle.write.proofs.Rows.{Rows}
 use Rattle.write.proofs.push_endpoints.Given as goal
 
 abbrev pub invariant-loop-i : goal.invariant-loop-i
-invariant-loop-i l = Rows endpoint_fields (sum endpoint_widths) (zip_with endpoint_from l.weights l.is_protected) (length l.weights) l.at l.held l.initial.buf l.i l.buf l.rest
+invariant-loop-i l =
+    Rows endpoint_fields (sum endpoint_widths) (zip_with endpoint_from l.weights l.is_protected) (length l.weights) l.at l.held l.initial.buf l.i l.buf l.rest
 
 abbrev pub decreases-loop-i : goal.decreases-loop-i
 decreases-loop-i l = length l.weights - l.i

@@ -8,7 +8,9 @@ use Rattle.write.proofs.Rows.{Rows}
 use Rattle.write.proofs.push_links_by.Given as goal
 
 abbrev pub invariant-loop-i : goal.invariant-loop-i
-invariant-loop-i l = Rows (link_fields (l.from_bits ∷ l.to_bits ∷ [])) (l.from_bits + l.to_bits) (map link_from l.pairs) (length l.pairs) l.at l.held l.initial.buf l.i l.buf l.rest
+invariant-loop-i l =
+    Rows (link_fields (l.from_bits ∷ l.to_bits ∷ [])) (l.from_bits + l.to_bits) (map link_from l.pairs) (length l.pairs)
+    l.at l.held l.initial.buf l.i l.buf l.rest
 
 abbrev pub decreases-loop-i : goal.decreases-loop-i
 decreases-loop-i l = length l.pairs - l.i

@@ -16,7 +16,8 @@ joined : (c : Start) → let a = c.args in bit_or (a.first * 2 ^ a.second_bits %
 joined c =
     let a = c.args in
     let p = c.requires in
-    let shifted : a.first * 2 ^ a.second_bits % 2 ^ 64 ≡ a.first * 2 ^ a.second_bits = shl_exact a.first_bits a.second_bits 64 p.first (omega (arith, p.wide)) in
+    let shifted : a.first * 2 ^ a.second_bits % 2 ^ 64 ≡ a.first * 2 ^ a.second_bits =
+    shl_exact a.first_bits a.second_bits 64 p.first (omega (arith, p.wide)) in
     rw shifted (or_shifted a.first a.second_bits a.second p.second)
 
 pub returns : goal.returns

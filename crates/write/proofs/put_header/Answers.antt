@@ -66,7 +66,8 @@ pub overflow_add-at-2 : goal.overflow_add-at-2
 overflow_add-at-2 c = omega (arith, placed (goal.at.overflow_add-at-2 c).After-endpoint_count_at-at)
 
 pub put_field-requires-7 : goal.put_field-requires-7
-put_field-requires-7 c = omega (arith, placed (goal.at.put_field-requires-7 c).After-endpoint_count_at-at, long (goal.at.put_field-requires-7 c).After-put_field-3)
+put_field-requires-7 c =
+    omega (arith, placed (goal.at.put_field-requires-7 c).After-endpoint_count_at-at, long (goal.at.put_field-requires-7 c).After-put_field-3)
 
 pub returns : goal.returns
 unfolding header_fields header_widths header_values fields_of Fit span slots_at sum

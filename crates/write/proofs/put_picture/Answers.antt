@@ -45,34 +45,45 @@ unfolding places_of
 end_at_lem c = ap (λ (p : Places). p.end) (places c)
 
 slots : (c : After-push_slots-behind_slots) → let h = c.args.h in
-    Follows c.put_header.new.buf (slots_at h.edition) 0 (slots_of h.edition (picture_from (lists (goal.at.After-push_slots-behind_slots c).After-find_places-at))) c.push_slots-behind_slots.new.buf (endpoints_at h) c.push_slots-behind_slots.result
+    Follows c.put_header.new.buf (slots_at h.edition) 0
+    (slots_of h.edition (picture_from (lists (goal.at.After-push_slots-behind_slots c).After-find_places-at))) c.push_slots-behind_slots.new.buf
+    (endpoints_at h) c.push_slots-behind_slots.result
 unfolding under handed picture_from
 slots c =
     let at = c.slots_at.ensures in
-    follows_at c.push_slots-behind_slots.ensures at (ap (λ (n : ℕ). n + length c.args.states.now * sum slot_widths) at ∙ slots_to (ready (goal.at.After-push_slots-behind_slots c).After-find_places-at))
+    follows_at c.push_slots-behind_slots.ensures at
+    (ap (λ (n : ℕ). n + length c.args.states.now * sum slot_widths) at ∙ slots_to (ready (goal.at.After-push_slots-behind_slots c).After-find_places-at))
 
 endpoints : (c : After-push_endpoints-behind_endpoints) → let h = c.args.h in
-    Follows c.push_slots-behind_slots.new.buf (endpoints_at h) c.push_slots-behind_slots.result (endpoints_of h.edition (picture_from (lists (goal.at.After-push_endpoints-behind_endpoints c).After-find_places-at))) c.push_endpoints-behind_endpoints.new.buf (links_at h)
+    Follows c.push_slots-behind_slots.new.buf (endpoints_at h) c.push_slots-behind_slots.result
+    (endpoints_of h.edition (picture_from (lists (goal.at.After-push_endpoints-behind_endpoints c).After-find_places-at)))
+    c.push_endpoints-behind_endpoints.new.buf (links_at h)
     c.push_endpoints-behind_endpoints.result
 unfolding under handed picture_from
 endpoints c =
-    follows_at c.push_endpoints-behind_endpoints.ensures (endpoints_at_lem (goal.at.After-push_endpoints-behind_endpoints c).After-find_places-at) (ap (λ (n : ℕ). n + length c.args.weights.now * sum endpoint_widths) (endpoints_at_lem (goal.at.After-push_endpoints-behind_endpoints c).After-find_places-at) ∙ endpoints_to (ready (goal.at.After-push_endpoints-behind_endpoints c).After-find_places-at))
+    follows_at c.push_endpoints-behind_endpoints.ensures (endpoints_at_lem (goal.at.After-push_endpoints-behind_endpoints c).After-find_places-at)
+    (ap (λ (n : ℕ). n + length c.args.weights.now * sum endpoint_widths) (endpoints_at_lem (goal.at.After-push_endpoints-behind_endpoints c).After-find_places-at) ∙ endpoints_to (ready (goal.at.After-push_endpoints-behind_endpoints c).After-find_places-at))
 
 links : (c : After-push_links-behind_links) → let h = c.args.h in
-    Follows c.push_endpoints-behind_endpoints.new.buf (links_at h) c.push_endpoints-behind_endpoints.result (links_of h.edition (picture_from (lists (goal.at.After-push_links-behind_links c).After-find_places-at))) c.push_links-behind_links.new.buf (service_links_at h)
+    Follows c.push_endpoints-behind_endpoints.new.buf (links_at h) c.push_endpoints-behind_endpoints.result
+    (links_of h.edition (picture_from (lists (goal.at.After-push_links-behind_links c).After-find_places-at))) c.push_links-behind_links.new.buf
+    (service_links_at h)
     c.push_links-behind_links.result
 unfolding under handed picture_from link_widths
 links c =
     let w = c.args.h.edition.location_bits in
-    follows_at c.push_links-behind_links.ensures (links_at_lem (goal.at.After-push_links-behind_links c).After-find_places-at) (ap (λ (n : ℕ). n + length c.args.links.now * (w + w)) (links_at_lem (goal.at.After-push_links-behind_links c).After-find_places-at) ∙ links_to (ready (goal.at.After-push_links-behind_links c).After-find_places-at))
+    follows_at c.push_links-behind_links.ensures (links_at_lem (goal.at.After-push_links-behind_links c).After-find_places-at)
+    (ap (λ (n : ℕ). n + length c.args.links.now * (w + w)) (links_at_lem (goal.at.After-push_links-behind_links c).After-find_places-at) ∙ links_to (ready (goal.at.After-push_links-behind_links c).After-find_places-at))
 
 services : (c : After-push_links-held) → let h = c.args.h in
-    Follows c.push_links-behind_links.new.buf (service_links_at h) c.push_links-behind_links.result (services_of h.edition (picture_from (lists (goal.at.After-push_links-held c).After-find_places-at))) c.push_links-held.new.buf (end_at h)
+    Follows c.push_links-behind_links.new.buf (service_links_at h) c.push_links-behind_links.result
+    (services_of h.edition (picture_from (lists (goal.at.After-push_links-held c).After-find_places-at))) c.push_links-held.new.buf (end_at h)
     c.push_links-held.result
 unfolding under handed picture_from service_link_widths
 services c =
     let w = c.args.h.edition.location_bits in
-    follows_at c.push_links-held.ensures (services_at (goal.at.After-push_links-held c).After-find_places-at) (ap (λ (n : ℕ). n + length c.args.service_links.now * (w + 8)) (services_at (goal.at.After-push_links-held c).After-find_places-at) ∙ services_to (ready (goal.at.After-push_links-held c).After-find_places-at))
+    follows_at c.push_links-held.ensures (services_at (goal.at.After-push_links-held c).After-find_places-at)
+    (ap (λ (n : ℕ). n + length c.args.service_links.now * (w + 8)) (services_at (goal.at.After-push_links-held c).After-find_places-at) ∙ services_to (ready (goal.at.After-push_links-held c).After-find_places-at))
 
 -- the buffer keeps its length
 slots_long : (c : After-push_slots-behind_slots) → length c.push_slots-behind_slots.new.buf ≡ length c.args.buf.now
@@ -95,22 +106,32 @@ slots_at-requires c = (ready_limited (ready (goal.at.slots_at-requires c).After-
 
 pub push_slots-behind_slots-requires : goal.push_slots-behind_slots-requires
 unfolding under handed
-push_slots-behind_slots-requires c = rw c.slots_at.ensures (slots_ready (ready (goal.at.push_slots-behind_slots-requires c).After-find_places-at) c.put_header.ensures.long)
+push_slots-behind_slots-requires c =
+    rw c.slots_at.ensures (slots_ready (ready (goal.at.push_slots-behind_slots-requires c).After-find_places-at) c.put_header.ensures.long)
 
 pub push_endpoints-behind_endpoints-requires : goal.push_endpoints-behind_endpoints-requires
 unfolding under handed
-push_endpoints-behind_endpoints-requires c = rw (endpoints_at_lem (goal.at.push_endpoints-behind_endpoints-requires c).After-find_places-at) (endpoints_ready (ready (goal.at.push_endpoints-behind_endpoints-requires c).After-find_places-at) (slots_long (goal.at.push_endpoints-behind_endpoints-requires c).After-push_slots-behind_slots) (slots (goal.at.push_endpoints-behind_endpoints-requires c).After-push_slots-behind_slots).small)
+push_endpoints-behind_endpoints-requires c =
+    rw (endpoints_at_lem (goal.at.push_endpoints-behind_endpoints-requires c).After-find_places-at)
+    (endpoints_ready (ready (goal.at.push_endpoints-behind_endpoints-requires c).After-find_places-at) (slots_long (goal.at.push_endpoints-behind_endpoints-requires c).After-push_slots-behind_slots) (slots (goal.at.push_endpoints-behind_endpoints-requires c).After-push_slots-behind_slots).small)
 
 pub push_links-behind_links-requires : goal.push_links-behind_links-requires
 unfolding under handed
-push_links-behind_links-requires c = rw (links_at_lem (goal.at.push_links-behind_links-requires c).After-find_places-at) (links_ready (ready (goal.at.push_links-behind_links-requires c).After-find_places-at) (endpoints_long (goal.at.push_links-behind_links-requires c).After-push_endpoints-behind_endpoints) (endpoints (goal.at.push_links-behind_links-requires c).After-push_endpoints-behind_endpoints).small)
+push_links-behind_links-requires c =
+    rw (links_at_lem (goal.at.push_links-behind_links-requires c).After-find_places-at)
+    (links_ready (ready (goal.at.push_links-behind_links-requires c).After-find_places-at) (endpoints_long (goal.at.push_links-behind_links-requires c).After-push_endpoints-behind_endpoints) (endpoints (goal.at.push_links-behind_links-requires c).After-push_endpoints-behind_endpoints).small)
 
 pub push_links-held-requires : goal.push_links-held-requires
 unfolding under handed
-push_links-held-requires c = rw (services_at (goal.at.push_links-held-requires c).After-find_places-at) (services_ready (ready (goal.at.push_links-held-requires c).After-find_places-at) (links_long (goal.at.push_links-held-requires c).After-push_links-behind_links) (links (goal.at.push_links-held-requires c).After-push_links-behind_links).small)
+push_links-held-requires c =
+    rw (services_at (goal.at.push_links-held-requires c).After-find_places-at)
+    (services_ready (ready (goal.at.push_links-held-requires c).After-find_places-at) (links_long (goal.at.push_links-held-requires c).After-push_links-behind_links) (links (goal.at.push_links-held-requires c).After-push_links-behind_links).small)
 
 pub push_fill-requires : goal.push_fill-requires
-push_fill-requires c = fill_room (ready_makes (ready (goal.at.push_fill-requires c).After-find_places-at)) (c.push_links-held.ensures.long ∙ links_long (goal.at.push_fill-requires c).After-push_links-behind_links) (end_at_lem (goal.at.push_fill-requires c).After-find_places-at) (services (goal.at.push_fill-requires c).After-push_links-held).small
+push_fill-requires c =
+    fill_room (ready_makes (ready (goal.at.push_fill-requires c).After-find_places-at))
+    (c.push_links-held.ensures.long ∙ links_long (goal.at.push_fill-requires c).After-push_links-behind_links)
+    (end_at_lem (goal.at.push_fill-requires c).After-find_places-at) (services (goal.at.push_fill-requires c).After-push_links-held).small
 
 pub returns : goal.returns
 returns c =

@@ -75,36 +75,49 @@ right c = handed_right (lists (goal.at.Else-number-ne0 c).After-edition_for-e) (
 
 pub returns-then-e-edition : goal.returns-then-e-edition
 unfolding handed_faults handed write_fault
-returns-then-e-edition c = fills_faulty (handed_faults (lists (goal.at.returns-then-e-edition c).After-edition_for-e)) (λ z. absurd (omega arith)) (tells _ (ap not (ne_eqb _ _ (λ z. c.if-e-edition.true (ap (λ (e : Edition). e.number) (edition (goal.at.returns-then-e-edition c).After-edition_for-e) ∙ sym z)))))
+returns-then-e-edition c =
+    fills_faulty (handed_faults (lists (goal.at.returns-then-e-edition c).After-edition_for-e)) (λ z. absurd (omega arith))
+    (tells _ (ap not (ne_eqb _ _ (λ z. c.if-e-edition.true (ap (λ (e : Edition). e.number) (edition (goal.at.returns-then-e-edition c).After-edition_for-e) ∙ sym z)))))
 
 pub handed_fault-number-requires : goal.handed_fault-number-requires
 unfolding under
-handed_fault-number-requires c = record { known = known (goal.at.handed_fault-number-requires c).After-edition_for-e; h_value = same (goal.at.handed_fault-number-requires c).After-edition_for-e ∙ ap columns_header (sym (alike (goal.at.handed_fault-number-requires c).Else-e-edition)) }
+handed_fault-number-requires c =
+    record { known = known (goal.at.handed_fault-number-requires c).After-edition_for-e; h_value = same (goal.at.handed_fault-number-requires c).After-edition_for-e ∙ ap columns_header (sym (alike (goal.at.handed_fault-number-requires c).Else-e-edition)) }
 
 pub returns-then-number-ne0 : goal.returns-then-number-ne0
 unfolding write_fault
-returns-then-number-ne0 c = fills_faulty (handed_faults (lists (goal.at.returns-then-number-ne0 c).After-edition_for-e)) c.if-number-ne0.true (judged (goal.at.returns-then-number-ne0 c).After-handed_fault-number)
+returns-then-number-ne0 c =
+    fills_faulty (handed_faults (lists (goal.at.returns-then-number-ne0 c).After-edition_for-e)) c.if-number-ne0.true
+    (judged (goal.at.returns-then-number-ne0 c).After-handed_fault-number)
 
 pub size_of-size-requires : goal.size_of-size-requires
-size_of-size-requires c = subst Limited (sym (same (goal.at.size_of-size-requires c).After-edition_for-e)) (right_limited (right (goal.at.size_of-size-requires c).Else-number-ne0))
+size_of-size-requires c =
+    subst Limited (sym (same (goal.at.size_of-size-requires c).After-edition_for-e)) (right_limited (right (goal.at.size_of-size-requires c).Else-number-ne0))
 
 -- the size that is asked for
 size : (c : After-size_of-size) → c.size_of-size.result ≡ size_for (lists (goal.at.After-size_of-size c).After-edition_for-e)
-size c = c.size_of-size.ensures ∙ ap size_of (same (goal.at.After-size_of-size c).After-edition_for-e) ∙ right_size (right (goal.at.After-size_of-size c).Else-number-ne0)
+size c =
+    c.size_of-size.ensures ∙ ap size_of (same (goal.at.After-size_of-size c).After-edition_for-e)
+    ∙ right_size (right (goal.at.After-size_of-size c).Else-number-ne0)
 
 pub returns-then-buf-size : goal.returns-then-buf-size
 unfolding write_fault
-returns-then-buf-size c = fills_short (handed_faults (lists (goal.at.returns-then-buf-size c).After-edition_for-e)) (clean (goal.at.returns-then-buf-size c).Else-number-ne0) (omega (arith, c.if-buf-size.true, size (goal.at.returns-then-buf-size c).After-size_of-size))
+returns-then-buf-size c =
+    fills_short (handed_faults (lists (goal.at.returns-then-buf-size c).After-edition_for-e)) (clean (goal.at.returns-then-buf-size c).Else-number-ne0)
+    (omega (arith, c.if-buf-size.true, size (goal.at.returns-then-buf-size c).After-size_of-size))
 
 pub put_picture-requires : goal.put_picture-requires
 unfolding under
 put_picture-requires c =
     let buf = c.args.buf.now in
-    subst (λ (l : Lists). Ready l (header (goal.at.put_picture-requires c).After-edition_for-e c.edition_for-e.result) buf) (sym (alike (goal.at.put_picture-requires c).Else-e-edition)) (record { right = clean (goal.at.put_picture-requires c).Else-number-ne0; header = same (goal.at.put_picture-requires c).After-edition_for-e; room = omega (arith, c.if-buf-size.false, size (goal.at.put_picture-requires c).After-size_of-size) })
+    subst (λ (l : Lists). Ready l (header (goal.at.put_picture-requires c).After-edition_for-e c.edition_for-e.result) buf)
+    (sym (alike (goal.at.put_picture-requires c).Else-e-edition))
+    (record { right = clean (goal.at.put_picture-requires c).Else-number-ne0; header = same (goal.at.put_picture-requires c).After-edition_for-e; room = omega (arith, c.if-buf-size.false, size (goal.at.put_picture-requires c).After-size_of-size) })
 
 pub returns : goal.returns
 unfolding under write_fault
 returns c =
     let buf = c.args.buf.now in
-    fills_made (handed_faults (lists (goal.at.returns c).After-edition_for-e)) (clean (goal.at.returns c).Else-number-ne0) (omega (arith, c.if-buf-size.false, size (goal.at.returns c).After-size_of-size)) (size (goal.at.returns c).After-size_of-size)
+    fills_made (handed_faults (lists (goal.at.returns c).After-edition_for-e)) (clean (goal.at.returns c).Else-number-ne0)
+    (omega (arith, c.if-buf-size.false, size (goal.at.returns c).After-size_of-size)) (size (goal.at.returns c).After-size_of-size)
     (subst (λ (l : Lists). Written l buf c.put_picture.new.buf) (alike (goal.at.returns c).Else-e-edition) c.put_picture.ensures)

@@ -51,7 +51,8 @@ pub overflow_add-at : goal.overflow_add-at
 overflow_add-at c = omega (arith, before (goal.at.overflow_add-at c).After-node_bits-size, c.requires.3.small)
 
 pub bytes-both-requires : goal.bytes-both-requires
-bytes-both-requires c = let f = few_bytes (goal.at.bytes-both-requires c).After-node_bits-size in (room (goal.at.bytes-both-requires c).After-node_bits-size, f.0, f.1)
+bytes-both-requires c =
+    let f = few_bytes (goal.at.bytes-both-requires c).After-node_bits-size in (room (goal.at.bytes-both-requires c).After-node_bits-size, f.0, f.1)
 
 pub overflow_shr-result : goal.overflow_shr-result
 overflow_shr-result c = omega (arith, (small (goal.at.overflow_shr-result c).After-node_bits-size).bits)

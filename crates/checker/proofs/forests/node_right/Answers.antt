@@ -55,7 +55,8 @@ returns-then-not-holds c =
     node_not_held _ _ _ _ (handed (goal.at.returns-then-not-holds c).Start) c.if-depth-eq0.false out
 
 pub returns-then-n-parent : goal.returns-then-n-parent
-returns-then-n-parent c = node_parent_out _ _ _ _ (handed (goal.at.returns-then-n-parent c).Start) c.if-depth-eq0.false (above_in _ _ (rw forest_length c.if-n-parent.true))
+returns-then-n-parent c =
+    node_parent_out _ _ _ _ (handed (goal.at.returns-then-n-parent c).Start) c.if-depth-eq0.false (above_in _ _ (rw forest_length c.if-n-parent.true))
 
 pub offset_bounds-links-parent : goal.offset_bounds-links-parent
 offset_bounds-links-parent c = omega (arith, most (goal.at.offset_bounds-links-parent c).Start, c.if-n-parent.false)
@@ -65,10 +66,13 @@ has-linked-requires c = omega (arith, most (goal.at.has-linked-requires c).Start
 
 pub returns-then-not-linked : goal.returns-then-not-linked
 unfolding linked_in
-returns-then-not-linked c = node_not_linked _ _ _ _ (handed (goal.at.returns-then-not-linked c).Start) c.if-depth-eq0.false (sym c.has-linked.ensures ∙ c.if-not-linked.true)
+returns-then-not-linked c =
+    node_not_linked _ _ _ _ (handed (goal.at.returns-then-not-linked c).Start) c.if-depth-eq0.false (sym c.has-linked.ensures ∙ c.if-not-linked.true)
 
 pub returns-then-parent-eq0 : goal.returns-then-parent-eq0
-returns-then-parent-eq0 c = node_root _ _ _ _ (handed (goal.at.returns-then-parent-eq0 c).Start) c.if-depth-eq0.false (holds (goal.at.returns-then-parent-eq0 c).Else-not-holds) (links (goal.at.returns-then-parent-eq0 c).Else-not-linked) c.if-parent-eq0.true
+returns-then-parent-eq0 c =
+    node_root _ _ _ _ (handed (goal.at.returns-then-parent-eq0 c).Start) c.if-depth-eq0.false (holds (goal.at.returns-then-parent-eq0 c).Else-not-holds)
+    (links (goal.at.returns-then-parent-eq0 c).Else-not-linked) c.if-parent-eq0.true
 
 pub returns-then-above-eq0 : goal.returns-then-above-eq0
 returns-then-above-eq0 c =
@@ -76,7 +80,8 @@ returns-then-above-eq0 c =
     (slot_in _ _ (some (goal.at.returns-then-above-eq0 c).Else-parent-eq0) ∙ rw (above (goal.at.returns-then-above-eq0 c).After-node_at-above, eq-eqb _ _ c.if-above-eq0.true))
 
 pub overflow_add-result : goal.overflow_add-result
-overflow_add-result c = rw c.node_at-above.ensures (let d = depth_small c.requires.links_len.3.known c.args.ev.now (c.args.at * 8) c.args.x.parent in omega arith)
+overflow_add-result c =
+    rw c.node_at-above.ensures (let d = depth_small c.requires.links_len.3.known c.args.ev.now (c.args.at * 8) c.args.x.parent in omega arith)
 
 pub returns : goal.returns
 returns c =

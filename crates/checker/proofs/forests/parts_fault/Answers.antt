@@ -64,7 +64,10 @@ loop-v-preserved c =
       some = omega arith;
       none = l.invariant.none;
       part = l.invariant.part;
-      followed = elim c.if-x-ne0.branch [ then-x-ne0 w ↦ rw w.slots-is (followed_in l.invariant.some l.invariant.followed r (λ z. w.if-x-ne0.true (sym e ∙ z)) w.add.ensures) | else-x-ne0 w ↦ rw w.slots-is (followed_out l.invariant.some l.invariant.followed r (e ∙ w.if-x-ne0.false)) ];
+      followed = elim c.if-x-ne0.branch [
+        | then-x-ne0 w ↦ rw w.slots-is (followed_in l.invariant.some l.invariant.followed r (λ z. w.if-x-ne0.true (sym e ∙ z)) w.add.ensures)
+        | else-x-ne0 w ↦ rw w.slots-is (followed_out l.invariant.some l.invariant.followed r (e ∙ w.if-x-ne0.false))
+      ];
     }
 
 pub marks_any-requires : goal.marks_any-requires
@@ -94,7 +97,11 @@ loop-a-init c =
             apart = λ u r s. subst T (sym c.marks_any.ensures ∙ c.if-marks_any.false) (in_range_any _ _ u r s);
           };
       closed =
-          elim c.if-meet_unevicted.branch [ then-meet_unevicted w ↦ rw w.a-is closed_begun | else-meet_unevicted w ↦ let none = rw w.if-meet_unevicted.false at c.meet_unevicted.ensures in closed_none (λ u s. none.apart tt u (without_both _ _ u s).0 s) ];
+          elim c.if-meet_unevicted.branch [
+            | then-meet_unevicted w ↦ rw w.a-is closed_begun
+            | else-meet_unevicted w ↦
+                let none = rw w.if-meet_unevicted.false at c.meet_unevicted.ensures in closed_none (λ u s. none.apart tt u (without_both _ _ u s).0 s)
+          ];
     }
 
 pub leads_out-requires : goal.leads_out-requires
@@ -106,12 +113,19 @@ loop-a-preserved c =
     record {
       none = i.none;
       inside = i.inside;
-      closed = elim c.if-has.branch [ then-has+else-leads_out w ↦ closed_apart i.closed (rw w.if-leads_out.false at w.leads_out.ensures) | else-has w ↦ closed_out i.closed (sym c.has.ensures ∙ w.if-has.false) ];
+      closed = elim c.if-has.branch [
+        | then-has+else-leads_out w ↦ closed_apart i.closed (rw w.if-leads_out.false at w.leads_out.ensures)
+        | else-has w ↦ closed_out i.closed (sym c.has.ensures ∙ w.if-has.false)
+      ];
     }
 
 -- part 0 is weighed against nothing, and each section against the first forest
 sides : (c : Joined-k-eq0) → let k = c.check in Sides k.now c.add-in-check.new.row k.k c.if-k-eq0.now c.if-k-eq0.still
-sides c = elim c.if-k-eq0.branch [ then-k-eq0 w ↦ sides_whole _ w.if-k-eq0.true w.now-is w.still-is | else-k-eq0 w ↦ sides_less _ w.if-k-eq0.false w.now-is w.still-is ]
+sides c =
+    elim c.if-k-eq0.branch [
+      | then-k-eq0 w ↦ sides_whole _ w.if-k-eq0.true w.now-is w.still-is
+      | else-k-eq0 w ↦ sides_less _ w.if-k-eq0.false w.now-is w.still-is
+    ]
 
 pub lost_between-lost-requires : goal.lost_between-lost-requires
 lost_between-lost-requires c = part_ready c.loop-a.invariant.inside (sides (goal.at.lost_between-lost-requires c).Joined-k-eq0)
@@ -131,7 +145,9 @@ check-preserved c =
     let lost = c.lost_between-lost.ensures in
     record {
       none = i.none;
-      gone = part_gone i.inside i.closed c.loop-a-test.false (sides (goal.at.check-preserved c).Joined-k-eq0) lost (sym c.stated_right-right.ensures ∙ c.if-not-right-2.false);
+      gone =
+          part_gone i.inside i.closed c.loop-a-test.false (sides (goal.at.check-preserved c).Joined-k-eq0) lost
+          (sym c.stated_right-right.ensures ∙ c.if-not-right-2.false);
       counted = part_counted i.inside i.closed c.loop-a-test.false (sides (goal.at.check-preserved c).Joined-k-eq0) lost c.check.invariant.counted
           (elim c.if-k-ne0.branch [ then-k-ne0 w ↦ inr (w.if-k-ne0.true, w.cuts-is) | else-k-ne0 w ↦ inl (w.if-k-ne0.false, w.cuts-is) ]);
     }

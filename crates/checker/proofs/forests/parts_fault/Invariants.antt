@@ -36,7 +36,8 @@ abbrev pub decreases-loop-v : goal.decreases-loop-v
 decreases-loop-v l = l.n + 1 - l.v
 
 abbrev pub invariant-loop-a : goal.invariant-loop-a
-invariant-loop-a l = Links (given l.s l.ev l.held l.h l.count l.words l.links l.services l.weights l.protected) l.now l.k l.evicted l.inside l.outside l.fault l.a
+invariant-loop-a l =
+    Links (given l.s l.ev l.held l.h l.count l.words l.links l.services l.weights l.protected) l.now l.k l.evicted l.inside l.outside l.fault l.a
 
 abbrev pub decreases-loop-a : goal.decreases-loop-a
 decreases-loop-a l = l.n + 1 - l.a

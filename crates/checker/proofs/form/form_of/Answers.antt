@@ -46,7 +46,10 @@ ended c =
     rw e at c.loop-b.invariant.1
 
 pub returns-then-right : goal.returns-then-right
-returns-then-right c = let f = ended (goal.at.returns-then-right c).After-loop-b in record { tested = rw (← f.tested, c.if-right.true, ← f.counted) c.head_right-right.ensures; counted = f.counted }
+returns-then-right c =
+    let f =
+    ended
+    (goal.at.returns-then-right c).After-loop-b in record { tested = rw (← f.tested, c.if-right.true, ← f.counted) c.head_right-right.ensures; counted = f.counted }
 
 pub returns-else-right : goal.returns-else-right
 returns-else-right c = let f = ended (goal.at.returns-else-right c).After-loop-b in record { tested = rw (← f.tested, c.if-right.false); counted = f.counted }

@@ -13,8 +13,12 @@ returns-then-head-h c = rw (← c.evidence_bytes.ensures, eq-eqb _ _ c.if-ev-evi
 
 pub returns-then-head-gt1 : goal.returns-then-head-gt1
 unfolding head_right
-returns-then-head-gt1 c = rw (← c.evidence_bytes.ensures, eq-eqb _ _ c.if-ev-evidence_bytes.false, ← c.head_of-head.ensures, eq-eqb _ _ c.if-head-h.false, lt-leb _ _ c.if-head-gt1.true)
+returns-then-head-gt1 c =
+    rw
+    (← c.evidence_bytes.ensures, eq-eqb _ _ c.if-ev-evidence_bytes.false, ← c.head_of-head.ensures, eq-eqb _ _ c.if-head-h.false, lt-leb _ _ c.if-head-gt1.true)
 
 pub returns : goal.returns
 unfolding head_right
-returns c = rw (← c.evidence_bytes.ensures, eq-eqb _ _ c.if-ev-evidence_bytes.false, ← c.head_of-head.ensures, eq-eqb _ _ c.if-head-h.false, le-leb _ _ c.if-head-gt1.false)
+returns c =
+    rw
+    (← c.evidence_bytes.ensures, eq-eqb _ _ c.if-ev-evidence_bytes.false, ← c.head_of-head.ensures, eq-eqb _ _ c.if-head-h.false, le-leb _ _ c.if-head-gt1.false)

@@ -24,7 +24,8 @@ found c =
 
 pub returns-then-is_named : goal.returns-then-is_named
 unfolding stated
-returns-then-is_named c = some_found _ 0 c.loop-i.i _ c.loop-i-test.true (found (goal.at.returns-then-is_named c).After-is_named ∙ c.if-is_named.true) ∙ sym (any_map _ _ _)
+returns-then-is_named c =
+    some_found _ 0 c.loop-i.i _ c.loop-i-test.true (found (goal.at.returns-then-is_named c).After-is_named ∙ c.if-is_named.true) ∙ sym (any_map _ _ _)
 
 pub loop-i-preserved : goal.loop-i-preserved
 loop-i-preserved c =

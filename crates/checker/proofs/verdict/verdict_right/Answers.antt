@@ -13,4 +13,5 @@ pub returns-then-best-eq0 : goal.returns-then-best-eq0
 returns-then-best-eq0 c = none_right _ _ _ _ _ c.head_of-head.ensures c.implied-best.ensures c.if-head-best.false c.if-head-best-2.false c.if-best-eq0.true
 
 pub returns : goal.returns
-returns c = c.any_named.ensures ∙ chosen_right _ _ _ _ _ c.head_of-head.ensures c.implied-best.ensures c.if-head-best.false c.if-head-best-2.false c.if-best-eq0.false
+returns c =
+    c.any_named.ensures ∙ chosen_right _ _ _ _ _ c.head_of-head.ensures c.implied-best.ensures c.if-head-best.false c.if-head-best-2.false c.if-best-eq0.false
