@@ -21,7 +21,7 @@ pub struct Node {
 }
 
 // The entries of all locations, and a row of what is reached.
-#[derive(Drop)]
+#[derive(Clone, Copy)]
 pub struct Forest {
     pub parent: [u16; LOCATIONS],
     pub depth: [u16; LOCATIONS],

@@ -371,7 +371,7 @@ fn ask_draws(table: &mut Table, random: &mut Random) {
 /// The header that the sizes ask for, in the order of the arguments.
 fn header(asked: &Asked) -> String {
     let Asked { block_size, blocks, endpoints, links, serving } = asked;
-    format!("(askedHeader {block_size} {blocks} {endpoints} {links} {serving})")
+    format!("(asked_header {block_size} {blocks} {endpoints} {links} {serving})")
 }
 
 fn ask_generate(table: &mut Table, seed: u64, asked: &Asked, mut lent: Vec<u8>) {

@@ -1,6 +1,6 @@
-//! Lists of acts, and reloads at the edge of the near limit.
+//! Acts one after another, lists of acts, and reloads at the edge of the near limit.
 
-use peer::calls::{any_calls, Act, Call};
+use peer::calls::{any_calls, no_blocks, Act, Call, ACTS};
 use peer::networks::{network, tied, Size, SHAPES};
 use peer::pack;
 use peer::picture::{Picture, State};
@@ -32,6 +32,38 @@ fn held_near_after_reload(picture: &Picture, block: usize) -> usize {
         }
     }
     reloaded.held_near()
+}
+
+/// Many acts on one picture, with choose and check in between.
+pub fn sequences(comparison: &mut Comparison, random: &mut Random, count: usize) {
+    for round in 0..count.div_ceil(2) {
+        let mut picture = any_network(random, round, 32);
+        unprotect_some(random, &mut picture);
+        let mut bytes = pack(&picture);
+        for step in 0..30 {
+            let block = any_block(random, picture.block_count());
+            // Freed slots never come back, so free is the rarest.
+            let act = ACTS[*random.pick(&[0, 0, 0, 1, 1, 1, 2])];
+            comparison.act(&Call { act, block }, &mut bytes);
+            if step % 10 == 9 {
+                choose_and_check(comparison, random, &bytes);
+            }
+        }
+    }
+}
+
+fn unprotect_some(random: &mut Random, picture: &mut Picture) {
+    if random.once_in(2) {
+        picture.endpoints.iter_mut().for_each(|endpoint| endpoint.protected = false);
+        picture.near_limit = picture.edition.max_near_limit();
+    }
+}
+
+fn any_block(random: &mut Random, blocks: usize) -> u32 {
+    match random.once_in(12) {
+        true => no_blocks(random, blocks as u32)[random.below(5)],
+        false => random.below(blocks) as u32,
+    }
 }
 
 /// Some hundreds of acts on one picture, refused ones among them, with choose and check in between.

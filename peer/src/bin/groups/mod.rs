@@ -25,7 +25,7 @@ const ROOM: usize = MAX_EVIDENCE_BYTES + 11;
 
 type Group = fn(&mut Comparison, &mut Random, usize);
 
-pub const ALL: [(&str, Group); 40] = [
+pub const ALL: [(&str, Group); 41] = [
     ("truncations of the samples", pictures::truncations),
     ("bit flips of the samples", pictures::bit_flips),
     ("wrong ends of links", pictures::wrong_ends),
@@ -55,6 +55,7 @@ pub const ALL: [(&str, Group); 40] = [
     ("evidence, ends of blocks", forests::block_ends),
     ("evidence, deep chains", forests::deep_chains),
     ("near limits", acts::near_limits),
+    ("sequences of acts", acts::sequences),
     ("lists of acts", acts::lists),
     ("lists: networks", lists::networks),
     ("lists: editions and near limits", lists::editions),
