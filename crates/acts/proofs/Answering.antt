@@ -95,3 +95,14 @@ acting_refused a bs b = answer_refusals acting_of Refused (λ _. refl) (λ e. le
 pub answered : (a : Act) (bs : List ℕ) (b : ℕ) (r : Acting) {bytes : Type 0} → r ≡ acting a bs b → bytes
     → (r ≡ acting a bs b) × ((acting_numbers r ≡ outcome (act_fault a bs b) []) × ((r ≢ Refused 0) × bytes))
 answered a bs b r e k = (e, (ap acting_numbers e ∙ acting_numbers_lem a bs b, (rw e (acting_refused a bs b), k)))
+
+-- the same, clause by clause
+module _ (a : Act) (bs : List ℕ) (b : ℕ) where
+  pub refused_numbers : (k : ℕ) → k ≢ 0 → k ≡ act_fault a bs b → acting_numbers (Refused k) ≡ outcome (act_fault a bs b) []
+  refused_numbers k n e = ap acting_numbers (refused_answer a bs b k n e) ∙ acting_numbers_lem a bs b
+
+  pub refused_some : (k : ℕ) → k ≢ 0 → k ≡ act_fault a bs b → Refused k ≢ Refused 0
+  refused_some k n e z = acting_refused a bs b (sym (refused_answer a bs b k n e) ∙ z)
+
+  pub done_numbers : (k : ℕ) → k ≡ 0 → k ≡ act_fault a bs b → acting_numbers Done ≡ outcome (act_fault a bs b) []
+  done_numbers k z e = ap acting_numbers (done_answer a bs b k z e) ∙ acting_numbers_lem a bs b

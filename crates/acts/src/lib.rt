@@ -140,6 +140,7 @@ fn near_after(s: &[u8], h: Header, b: usize) -> usize
 }
 
 // The fault of cutting a protected endpoint, or 0.
+#[tactic(auto, unfolding(crate::specs::Faults::cut_fault, lists::specs::Lists::on, weigh::specs::Weighing::weights_of))]
 fn block_cut_fault(s: &[u8], h: Header, b: usize) -> u8
     requires { Read s.now h × (b < block_count (picture_of s.now)) }
     ensures { result ≡ cut_fault Act.Evict (picture_of s.now) b }
@@ -163,6 +164,7 @@ fn cut_fault(s: &[u8], h: Header, a: Act, b: usize) -> u8
 }
 
 // The fault of a reload of block b after which too many near slots are held, or 0.
+#[tactic(auto, using(crate::proofs::Headers::read_near_limit), unfolding(crate::specs::Faults::near_fault, lists::specs::Lists::on))]
 fn block_near_fault(s: &[u8], h: Header, b: usize) -> u8
     requires { Read s.now h × (b < block_count (picture_of s.now)) }
     ensures { result ≡ near_fault Act.Reload (picture_of s.now) b }
@@ -226,6 +228,7 @@ fn put_states(s: &mut [u8], h: Header, a: Act, b: usize)
 }
 
 // An act on block b of a picture of any bytes: done, or refused, and then no byte is written.
+#[tactic(auto, using(crate::proofs::Answering::refused_answer, crate::proofs::Answering::refused_numbers, crate::proofs::Answering::refused_some, crate::proofs::Answering::refused_bytes, crate::proofs::Answering::done_answer, crate::proofs::Answering::done_numbers, crate::proofs::Answering::done_bytes_lem))]
 fn apply(s: &mut [u8], a: Act, b: u32) -> Acting
     ensures answer { result ≡ acting a s.old b }
     ensures numbers { acting_numbers result ≡ outcome (act_fault a s.old b) [] }

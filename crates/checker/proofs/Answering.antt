@@ -120,3 +120,19 @@ module _ (bs ev : List ℕ) where
   pub told_refused : (k : ℕ) → k ≢ 0 → k ≡ check_fault bs ev → Told (Refused k)
   unfolding checking checking_of
   told_refused k n e = told (answer_refused checking_of Refused (λ _. refl) k n e)
+
+  -- the same, clause by clause
+  pub passed_answer : 0 ≡ check_fault bs ev → Passed ≡ checking bs ev
+  passed_answer e = (told_passed refl e).0
+
+  pub passed_numbers : 0 ≡ check_fault bs ev → checking_numbers Passed ≡ outcome (check_fault bs ev) []
+  passed_numbers e = (told_passed refl e).1.0
+
+  pub refused_answer : (k : ℕ) → k ≢ 0 → k ≡ check_fault bs ev → Refused k ≡ checking bs ev
+  refused_answer k n e = (told_refused k n e).0
+
+  pub refused_numbers : (k : ℕ) → k ≢ 0 → k ≡ check_fault bs ev → checking_numbers (Refused k) ≡ outcome (check_fault bs ev) []
+  refused_numbers k n e = (told_refused k n e).1.0
+
+  pub refused_some : (k : ℕ) → k ≢ 0 → k ≡ check_fault bs ev → Refused k ≢ Refused 0
+  refused_some k n e = (told_refused k n e).1.1

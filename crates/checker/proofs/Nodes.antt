@@ -1,5 +1,5 @@
 -- The nodes of a forest in the evidence, and what the test of one node comes to. Assumes nothing.
-use mathlib.Core.Path.{◌≡◌, refl, ap₂, ◌∙◌}
+use mathlib.Core.Path.{◌≡◌, refl, sym, ap₂, ◌∙◌}
 use mathlib.Core.Bool.{Bool, true, false, not, and-false, and-true}
 use mathlib.Core.Logic.{◌≢◌}
 use mathlib.Core.List.{List}
@@ -102,3 +102,12 @@ module _ (linked : ℕ → ℕ → Bool) (held : ℕ → Bool) (es : List Node) 
     pub node_root : held v ≡ true → linked x.parent v ≡ true → x.parent ≡ 0 → eqb x.depth 1 ≡ node_right linked held es v
     unfolding is_in node_of item
     node_root h l z = eqb_comm x.depth 1 ∙ rw z at (node_depths h l (rw z))
+
+-- a node whose parent is a slot with depth 0 is refused: by the nodes as they are read
+pub node_parent_freed : (e : Edition) (n : ℕ) (ev : List ℕ) (q : ℕ) (linked : ℕ → ℕ → Bool) (held : ℕ → Bool) (v : ℕ) (x k : Node) → 1 ≤ v → v ≤ n → x ≡ node_from e ev q v
+    → x.depth ≢ 0 → x.parent ≢ 0 → x.parent ≤ n → k ≡ node_from e ev q x.parent → k.depth ≡ 0 → false ≡ node_right linked held (forest_in e n ev q) v
+node_parent_freed e n ev q linked held v x k some most own deep above low parent freed =
+    let above_some : 1 ≤ x.parent = omega arith in
+    let told : node_of (forest_in e n ev q) x.parent ≡ k = node_read e n ev q x.parent above_some low ∙ sym parent in
+    node_parent_out linked held (forest_in e n ev q) v (node_read e n ev q v some most ∙ sym own) deep
+    (slot_in (forest_in e n ev q) x.parent above_some ∙ rw (told, eq-eqb _ _ freed))

@@ -35,6 +35,7 @@ fn node_at(ev: &[u8], h: Header, at: usize, v: usize) -> Node
 }
 
 // Whether the node x of slot v keeps its rule in the forest that starts at byte `at`, where nothing is evicted.
+#[tactic(auto, using(crate::proofs::Nodes::node_parent_freed))]
 fn node_right(
     links: &[[u64; WORDS]; LOCATIONS],
     held: &[u64; WORDS],

@@ -49,6 +49,7 @@ fn evidence_fault(s: &[u8], h: Header, ev: &[u8]) -> u8
 }
 
 // Checks evidence from anywhere against a picture: passed, or refused with the number of the first fault.
+#[tactic(auto, using(crate::proofs::Answering::passed_answer, crate::proofs::Answering::passed_numbers, crate::proofs::Answering::refused_answer, crate::proofs::Answering::refused_numbers, crate::proofs::Answering::refused_some))]
 pub fn check(s: &[u8], ev: &[u8]) -> Checking
     ensures answer { result ≡ checking s.now ev.now }
     ensures numbers { checking_numbers result ≡ outcome (check_fault s.now ev.now) [] }
@@ -67,6 +68,7 @@ pub fn check(s: &[u8], ev: &[u8]) -> Checking
 }
 
 // The part that show gives: the chosen candidate's section, or the empty part where the check fails or the verdict is none.
+#[tactic(auto, using(evidence::proofs::Showing::shown_none))]
 fn shown_part(s: &[u8], ev: &[u8]) -> Part
     ensures { result ≡ shown_part s.now ev.now }
 {

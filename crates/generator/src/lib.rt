@@ -134,6 +134,7 @@ fn put_generated(buf: &mut [u8], seed: u64, h: Header)
 }
 
 // The first fault of the header that is asked for, or 0.
+#[tactic(auto, unfolding(crate::specs::Faults::asked_faults, lists::specs::Lists::on, lists::specs::Lists::first))]
 fn asked_fault(h: Header) -> u8
     ensures { result ≡ first (asked_faults h) }
 {

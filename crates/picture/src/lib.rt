@@ -421,6 +421,7 @@ fn links_fault(s: &[u8], h: Header) -> u8
 }
 
 // The fault of one service link: its location's before its endpoint's.
+#[tactic(auto, unfolding(crate::specs::Faults::service_link_fault, lists::specs::Lists::on, lists::specs::Lists::first))]
 pub fn service_link_fault(l: Link, n: usize, d: usize) -> u8
     ensures { result ≡ service_link_fault n d l }
 {

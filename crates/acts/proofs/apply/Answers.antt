@@ -1,18 +1,12 @@
 -- `apply` does an act on a block of any bytes, or refuses it. Assumes nothing.
 use mathlib.Core.Path.{sym, ◌∙◌}
 use Rattle.picture.proofs.Answering.{accepted_read, refused_fault}
-use Rattle.acts.proofs.Answering.{answered, faulty_picture, refused_answer, refused_bytes, done_answer, done_bytes_lem}
+use Rattle.acts.proofs.Answering.{answered, faulty_picture, refused_answer, refused_bytes}
 use Rattle.acts.proofs.Judged.{done_doable}
 use Rattle.acts.proofs.apply.Goals as goal
 
 pub act_fault-number-requires : goal.act_fault-number-requires
 act_fault-number-requires c = accepted_read _ _ c.in-Accepted.ensures.answer
-
-pub returns-then-number-ne0 : goal.returns-then-number-ne0
-returns-then-number-ne0 c =
-    let all = let e = c.act_fault-number.ensures in
-    answered _ _ _ _ (refused_answer _ _ _ _ c.if-number-ne0.true e) (refused_bytes _ _ _ _ c.if-number-ne0.true e) in
-    record { answer = all.0; numbers = all.1.0; refusals = all.1.1.0; bytes = all.1.1.1 }
 
 pub put_states-requires : goal.put_states-requires
 put_states-requires c =
@@ -24,10 +18,4 @@ returns-in-Refused c =
     let all = let r = refused_fault _ _ c.in-Refused.ensures.answer in
     let e = faulty_picture _ _ _ _ r.1 r.0 in
     answered _ _ _ _ (refused_answer _ _ _ _ r.1 e) (refused_bytes _ _ _ _ r.1 e) in
-    record { answer = all.0; numbers = all.1.0; refusals = all.1.1.0; bytes = all.1.1.1 }
-
-pub returns-else-number-ne0 : goal.returns-else-number-ne0
-returns-else-number-ne0 c =
-    let all = let e = c.act_fault-number.ensures in
-    answered _ _ _ _ (done_answer _ _ _ _ c.if-number-ne0.false e) (c.put_states.ensures ∙ done_bytes_lem _ _ _ _ c.if-number-ne0.false e) in
     record { answer = all.0; numbers = all.1.0; refusals = all.1.1.0; bytes = all.1.1.1 }

@@ -5,7 +5,7 @@ use Rattle.picture.proofs.Answering.{accepted_read, refused_fault}
 use Rattle.picture.proofs.Facts.{read_edition, read_limited}
 use Rattle.network.proofs.Blocks.{read_slots}
 use Rattle.evidence.specs.Checks.{check_fault}
-use Rattle.evidence.proofs.Showing.{named_at, shown_failed, shown_none, shown_part_lem}
+use Rattle.evidence.proofs.Showing.{named_at, shown_failed, shown_part_lem}
 use Rattle.checker.proofs.Answering.{check_picture}
 use Rattle.checker.proofs.Showing.{count_few, named_few, named_section}
 use Rattle.checker.proofs.shown_part.Goals as goal
@@ -26,9 +26,6 @@ evidence_fault-fault-requires c = accepted_read _ _ c.in-Accepted.ensures.answer
 
 pub returns-then-fault-ne0 : goal.returns-then-fault-ne0
 returns-then-fault-ne0 c = sym (shown_failed _ _ (λ z. c.if-fault-ne0.true (c.evidence_fault-fault.ensures ∙ z)))
-
-pub returns-then-head-ne1 : goal.returns-then-head-ne1
-returns-then-head-ne1 c = sym (shown_none _ _ (rw (← c.head_of-head.ensures) c.if-head-ne1.true))
 
 pub section_named-i-requires : goal.section_named-i-requires
 section_named-i-requires c =

@@ -1,5 +1,4 @@
 -- `endpoint_rows` reads the endpoints' weights and marks the protected ones. Assumes nothing.
-use Rattle.std.proofs.lemmas.Grind.{common_steps}
 use mathlib.Core.Path.{◌≡◌, sym, ap, ◌∙◌}
 use native.Mathlib.Omega.{arith}
 use Prim.Native.Nat.{◌+◌, ◌≤◌}
@@ -12,7 +11,7 @@ use Rattle.network.proofs.Weights.{weight_small}
 use Rattle.network.proofs.Making.{Scanned, scanned_begun, scanned_hit, scanned_miss}
 use Rattle.network.proofs.Ends.{weighing_begun, weighing_next, endpoints_looked}
 use Rattle.network.proofs.endpoint_rows.Goals as goal
-use Rattle.network.proofs.endpoint_rows.Goals.{After-endpoint_protected-guarded, After-endpoint_weight-weight, At-loop-c}
+use Rattle.network.proofs.endpoint_rows.Goals.{After-endpoint_protected-guarded, After-endpoint_weight-weight, At-loop-c, Joined-guarded, else-guarded, then-guarded}
 
 few : (c : At-loop-c) → c.args.h.endpoints ≤ endpoints_max
 few c = (read_limited _ _ c.loop-c.invariant.read).counts.endpoints_most
@@ -25,6 +24,19 @@ weight c = let l = c.loop-c in c.endpoint_weight-weight.ensures ∙ ap (λ (p : 
 protected : (c : After-endpoint_protected-guarded) → (endpoint_of (picture_of c.args.s.now) c.loop-c.c).protected ≡ c.endpoint_protected-guarded.result
 protected c =
     let l = c.loop-c in sym (c.endpoint_protected-guarded.ensures ∙ ap (λ (p : Picture). (endpoint_of p l.c).protected) (read_picture _ _ l.invariant.read))
+
+-- the endpoint at hand is looked at, and marked if it is protected
+protected_next : (c : Joined-guarded) → Scanned (λ u. (endpoint_of (picture_of c.args.s.now) u).protected) c.if-guarded.protected (c.loop-c.c + 1)
+protected_next c =
+    let l = c.loop-c in
+    elim c.if-guarded.branch [
+      | then-guarded w ↦
+          rw w.protected-is
+          (scanned_hit _ _ _ l.c l.invariant.some l.invariant.protected (protected (goal.at.Joined-guarded c).After-endpoint_protected-guarded ∙ w.if-guarded.true) w.add.ensures)
+      | else-guarded w ↦
+          rw w.protected-is
+          (scanned_miss _ _ l.c l.invariant.some l.invariant.protected (protected (goal.at.Joined-guarded c).After-endpoint_protected-guarded ∙ w.if-guarded.false))
+    ]
 
 pub loop-c-init : goal.loop-c-init
 loop-c-init c =
@@ -67,8 +79,7 @@ loop-c-preserved c =
       read = l.invariant.read;
       weighed =
           weighing_next _ l.weights l.c _ l.invariant.some few-left l.invariant.weighed (weight (goal.at.loop-c-preserved c).After-endpoint_weight-weight);
-      protected =
-          let told = protected (goal.at.loop-c-preserved c).After-endpoint_protected-guarded in grind (arith, common_steps, scanned_hit, scanned_miss);
+      protected = protected_next (goal.at.loop-c-preserved c).Joined-guarded;
     }
 
 pub returns : goal.returns

@@ -4,7 +4,7 @@ use mathlib.Core.Bool.{true}
 use mathlib.Core.List.{List}
 use Prim.Native.Nat.{◌*◌, ◌≤◌}
 use native.Mathlib.Omega.{arith}
-use borrow.Author.Tests.{eq-eqb, ne_eqb}
+use borrow.Author.Tests.{ne_eqb}
 use Rattle.rows.specs.Rows.{linked_in, slots_max}
 use Rattle.graph.specs.declared.Node.{Node}
 use Rattle.graph.specs.Kept.{node_of}
@@ -73,11 +73,6 @@ pub returns-then-parent-eq0 : goal.returns-then-parent-eq0
 returns-then-parent-eq0 c =
     node_root _ _ _ _ (handed (goal.at.returns-then-parent-eq0 c).Start) c.if-depth-eq0.false (holds (goal.at.returns-then-parent-eq0 c).Else-not-holds)
     (links (goal.at.returns-then-parent-eq0 c).Else-not-linked) c.if-parent-eq0.true
-
-pub returns-then-above-eq0 : goal.returns-then-above-eq0
-returns-then-above-eq0 c =
-    node_parent_out _ _ _ _ (handed (goal.at.returns-then-above-eq0 c).Start) c.if-depth-eq0.false
-    (slot_in _ _ (some (goal.at.returns-then-above-eq0 c).Else-parent-eq0) ∙ rw (above (goal.at.returns-then-above-eq0 c).After-node_at-above, eq-eqb _ _ c.if-above-eq0.true))
 
 pub overflow_add-result : goal.overflow_add-result
 overflow_add-result c =
