@@ -1,9 +1,11 @@
 // The acts on a block of a lent picture: evict, reload and free.
 #![tactic(auto)]
 
-ghost use Rattle.std.specs.Prelude.{◌≡◌, ◌&&◌, ◌||◌, [], ◌≢◌, ◌≤◌, ◌<◌, eqb};
+ghost use Rattle.std.specs.Prelude.{◌≡◌, ◌&&◌, ◌||◌, not, [], ◌≤◌, ◌<◌, eqb};
 ghost use Rattle.lists.specs.Lists.{range, any, outcome};
-ghost use Rattle.picture.specs.Picture.{picture_of, slot_of};
+ghost use Rattle.picture.specs.Refusals.{fault_of};
+ghost use Rattle.picture.specs.Layout.{state_number};
+ghost use Rattle.picture.specs.Picture.{header_of, picture_of, slot_of};
 ghost use Rattle.picture.specs.Inner.{Read};
 ghost use Rattle.network.specs.Words.{slot_count, block_count};
 ghost use Rattle.network.specs.Tests.{is_near_held};
@@ -11,8 +13,7 @@ ghost use Rattle.acts.specs.Faults.{changes, cut_fault, near_fault, act_fault};
 ghost use Rattle.acts.specs.Answers.{act_bytes, acting, acting_numbers};
 ghost use Rattle.acts.specs.Acts.{after, recoverable_near, near_after, done_bytes};
 
-use picture::refusals::{NEAR, NO_BLOCK, NO_CHANGE, PROTECTED};
-use picture::{FREED, HELD, Header, RECOVERABLE, Reading};
+use picture::{Header, Picture, Refusal, State};
 
 // What is done to a block.
 #[derive(Clone, Copy)]
@@ -22,257 +23,206 @@ pub enum Act {
     Free,
 }
 
-// What an act answers.
-#[derive(Clone, Copy)]
-pub enum Acting {
-    Done,
-    Refused(u8),
+// A slot's state after an act on its block.
+#[tactic(auto, unfolding(crate::specs::Acts::after))]
+fn after(a: Act, state: State) -> State
+    ensures { state_number result ≡ after a (state_number state) }
+{
+    match (a, state) {
+        (Act::Evict, State::Held) => State::Recoverable,
+        (Act::Reload, State::Recoverable) => State::Held,
+        (Act::Free, _) => State::Freed,
+        _ => state,
+    }
 }
 
-// A slot's state after an act on its block.
-fn after(a: Act, state: usize) -> usize
-    ensures { result ≡ after a state }
+// Whether the act changes slot v.
+#[tactic(auto, using(picture::proofs::States::same_number))]
+fn is_changed(p: &Picture, a: Act, v: usize) -> bool
+    requires { (1 ≤ v) × (v ≤ (header_of p.now).slots) }
+    ensures { result ≡ not (eqb (after a (slot_of (picture_of p.now) v).state) (slot_of (picture_of p.now) v).state) }
 {
-    match a {
-        Act::Evict => {
-            if state == HELD {
-                return RECOVERABLE;
-            }
-            state
-        }
-        Act::Reload => {
-            if state == RECOVERABLE {
-                return HELD;
-            }
-            state
-        }
-        Act::Free => FREED,
-    }
+    let state = p.slot_state(v);
+    after(a, state) != state
 }
 
 // Whether the act changes a slot of block b.
-fn changes(s: &[u8], h: Header, a: Act, b: usize) -> bool
-    requires { Read s.now h × (b < block_count (picture_of s.now)) }
-    ensures { result ≡ changes a (picture_of s.now) b }
+#[tactic(auto, using(crate::proofs::Headers::read_within))]
+fn changes(p: &Picture, a: Act, b: usize) -> bool
+    requires { b < block_count (picture_of p.now) }
+    ensures { result ≡ changes a (picture_of p.now) b }
 {
-    let size = h.block_size;
-    let start = b * size + 1;
-    let mut k: usize = 0;
-    while k < size {
-        let state = picture::slot_state(s, h, start + k);
-        if after(a, state) != state {
-            return true;
-        }
-        k += 1;
-    }
-    false
+    let h = p.header();
+    let start = b * h.block_size + 1;
+    (start..start + h.block_size).any(|v| is_changed(p, a, v))
 }
 
 // Whether slot v is near and in this state.
-fn is_near_in(s: &[u8], h: Header, v: usize, state: usize) -> bool
-    requires { Read s.now h × (1 ≤ v) × (v ≤ h.slots) }
-    ensures { result ≡ ((slot_of (picture_of s.now) v).near && eqb (slot_of (picture_of s.now) v).state state) }
+#[tactic(auto, using(picture::proofs::States::same_number))]
+fn is_near_in(p: &Picture, v: usize, state: State) -> bool
+    requires { (1 ≤ v) × (v ≤ (header_of p.now).slots) }
+    ensures { result ≡ ((slot_of (picture_of p.now) v).near && eqb (slot_of (picture_of p.now) v).state (state_number state)) }
 {
-    if picture::slot_near(s, h, v) {
-        return picture::slot_state(s, h, v) == state;
-    }
-    false
+    p.is_near(v) && p.slot_state(v) == state
 }
 
 // Whether slot v is one of the near slots that a reload of block b adds to the held ones.
-fn is_added_near(s: &[u8], h: Header, b: usize, v: usize) -> bool
-    requires { Read s.now h × (b < block_count (picture_of s.now)) × (1 ≤ v) × (v ≤ h.slots) }
-    ensures { result ≡ recoverable_near (picture_of s.now) b v }
+#[tactic(auto, using(crate::proofs::Headers::read_within))]
+fn is_added_near(p: &Picture, b: usize, v: usize) -> bool
+    requires { (b < block_count (picture_of p.now)) × (1 ≤ v) × (v ≤ (header_of p.now).slots) }
+    ensures { result ≡ recoverable_near (picture_of p.now) b v }
 {
-    let size = h.block_size;
-    let start = b * size;
-    if v < start + 1 {
-        return false;
-    }
-    if start + size < v {
-        return false;
-    }
-    is_near_in(s, h, v, RECOVERABLE)
+    let h = p.header();
+    let before = b * h.block_size;
+    before < v && v <= before + h.block_size && is_near_in(p, v, State::Recoverable)
 }
 
 // Whether slot v is near and held after a reload of block b.
-fn is_near_after(s: &[u8], h: Header, b: usize, v: usize) -> bool
-    requires { Read s.now h × (b < block_count (picture_of s.now)) × (1 ≤ v) × (v ≤ h.slots) }
-    ensures { result ≡ (is_near_held (picture_of s.now) v || recoverable_near (picture_of s.now) b v) }
+#[tactic(auto, using(crate::proofs::Headers::near_held))]
+fn is_near_after(p: &Picture, b: usize, v: usize) -> bool
+    requires { (b < block_count (picture_of p.now)) × (1 ≤ v) × (v ≤ (header_of p.now).slots) }
+    ensures { result ≡ (is_near_held (picture_of p.now) v || recoverable_near (picture_of p.now) b v) }
 {
-    if is_near_in(s, h, v, HELD) {
-        return true;
-    }
-    is_added_near(s, h, b, v)
+    is_near_in(p, v, State::Held) || is_added_near(p, b, v)
 }
 
 // Whether a reload of block b adds a held near slot.
-fn adds_near(s: &[u8], h: Header, b: usize) -> bool
-    requires { Read s.now h × (b < block_count (picture_of s.now)) }
-    ensures { result ≡ any (recoverable_near (picture_of s.now) b) (range 1 (slot_count (picture_of s.now))) }
+#[tactic(auto, using(picture::proofs::Facts::read_slots_most))]
+fn adds_near(p: &Picture, b: usize) -> bool
+    requires { b < block_count (picture_of p.now) }
+    ensures { result ≡ any (recoverable_near (picture_of p.now) b) (range 1 (slot_count (picture_of p.now))) }
 {
-    let n = h.slots;
-    let mut k: usize = 0;
-    while k < n {
-        if is_added_near(s, h, b, k + 1) {
-            return true;
-        }
-        k += 1;
-    }
-    false
+    (1..p.header().slots + 1).any(|v| is_added_near(p, b, v))
 }
 
 // The number of held near slots after a reload of block b.
-fn near_after(s: &[u8], h: Header, b: usize) -> usize
-    requires { Read s.now h × (b < block_count (picture_of s.now)) }
-    ensures { result ≡ near_after (picture_of s.now) b }
+#[tactic(auto, using(picture::proofs::Facts::read_slots_most))]
+fn near_after(p: &Picture, b: usize) -> usize
+    requires { b < block_count (picture_of p.now) }
+    ensures { result ≡ near_after (picture_of p.now) b }
 {
-    let n = h.slots;
-    let mut count: usize = 0;
-    let mut k: usize = 0;
-    while k < n {
-        if is_near_after(s, h, b, k + 1) {
-            count += 1;
-        }
-        k += 1;
-    }
-    count
+    (1..p.header().slots + 1)
+        .filter(|v| is_near_after(p, b, *v))
+        .count()
 }
 
-// The fault of cutting a protected endpoint, or 0.
+// Giving up a block cuts no protected endpoint.
 #[tactic(auto, unfolding(crate::specs::Faults::cut_fault, lists::specs::Lists::on, weigh::specs::Weighing::weights_of))]
-fn block_cut_fault(s: &[u8], h: Header, b: usize) -> u8
-    requires { Read s.now h × (b < block_count (picture_of s.now)) }
-    ensures { result ≡ cut_fault Act.Evict (picture_of s.now) b }
+fn judge_block_cut(p: &Picture, b: usize) -> Result<(), Refusal>
+    requires { b < block_count (picture_of p.now) }
+    ensures { fault_of result ≡ cut_fault Act.Evict (picture_of p.now) b }
 {
-    if weigh::weigh_block(s, h, b).mark == 1 {
-        return PROTECTED;
+    if weigh::weigh_block(p, b).mark == 1 {
+        return Err(Refusal::Protected);
     }
-    0
+    Ok(())
 }
 
 // The same of an act: a free cuts where an evict would, and a reload cuts nothing.
-fn cut_fault(s: &[u8], h: Header, a: Act, b: usize) -> u8
-    requires { Read s.now h × (b < block_count (picture_of s.now)) }
-    ensures { result ≡ cut_fault a (picture_of s.now) b }
+#[tactic(auto, unfolding(crate::specs::Faults::cut_fault))]
+fn judge_cut(p: &Picture, a: Act, b: usize) -> Result<(), Refusal>
+    requires { b < block_count (picture_of p.now) }
+    ensures { fault_of result ≡ cut_fault a (picture_of p.now) b }
 {
     match a {
-        Act::Evict => block_cut_fault(s, h, b),
-        Act::Reload => 0,
-        Act::Free => block_cut_fault(s, h, b),
+        Act::Evict => judge_block_cut(p, b),
+        Act::Reload => Ok(()),
+        Act::Free => judge_block_cut(p, b),
     }
 }
 
-// The fault of a reload of block b after which too many near slots are held, or 0.
+// A reload of block b adds no held near slot, or leaves no more of them than the near limit.
 #[tactic(auto, using(crate::proofs::Headers::read_near_limit), unfolding(crate::specs::Faults::near_fault, lists::specs::Lists::on))]
-fn block_near_fault(s: &[u8], h: Header, b: usize) -> u8
-    requires { Read s.now h × (b < block_count (picture_of s.now)) }
-    ensures { result ≡ near_fault Act.Reload (picture_of s.now) b }
+fn judge_block_near(p: &Picture, b: usize) -> Result<(), Refusal>
+    requires { b < block_count (picture_of p.now) }
+    ensures { fault_of result ≡ near_fault Act.Reload (picture_of p.now) b }
 {
-    let limit = h.near_limit;
-    let adds = adds_near(s, h, b);
-    if !adds {
-        return 0;
+    let limit = p.header().near_limit;
+    if adds_near(p, b) && limit < near_after(p, b) {
+        return Err(Refusal::Near);
     }
-    if limit < near_after(s, h, b) {
-        return NEAR;
-    }
-    0
+    Ok(())
 }
 
 // The same of an act: an evict and a free hold no more than before.
-fn near_fault(s: &[u8], h: Header, a: Act, b: usize) -> u8
-    requires { Read s.now h × (b < block_count (picture_of s.now)) }
-    ensures { result ≡ near_fault a (picture_of s.now) b }
+#[tactic(auto, unfolding(crate::specs::Faults::near_fault))]
+fn judge_near(p: &Picture, a: Act, b: usize) -> Result<(), Refusal>
+    requires { b < block_count (picture_of p.now) }
+    ensures { fault_of result ≡ near_fault a (picture_of p.now) b }
 {
     match a {
-        Act::Evict => 0,
-        Act::Reload => block_near_fault(s, h, b),
-        Act::Free => 0,
+        Act::Evict => Ok(()),
+        Act::Reload => judge_block_near(p, b),
+        Act::Free => Ok(()),
     }
 }
 
-// The number of the first fault of an act on block b of an accepted picture, or 0.
-fn act_fault(s: &[u8], h: Header, a: Act, b: usize) -> u8
-    requires { Read s.now h }
-    ensures { result ≡ act_fault a s.now b }
+// An act on block b of an accepted picture has no fault.
+#[tactic(auto, using(network::proofs::Blocks::read_blocks))]
+fn judge(p: &Picture, a: Act, b: usize) -> Result<(), Refusal>
+    ensures { fault_of result ≡ act_fault a p.now b }
 {
+    let h = p.header();
     if h.slots / h.block_size <= b {
-        return NO_BLOCK;
+        return Err(Refusal::NoBlock);
     }
-    let some = changes(s, h, a, b);
-    if !some {
-        return NO_CHANGE;
+    if !changes(p, a, b) {
+        return Err(Refusal::NoChange);
     }
-    let cut = cut_fault(s, h, a, b);
-    if cut != 0 {
-        return cut;
-    }
-    near_fault(s, h, a, b)
+    judge_cut(p, a, b)?;
+    judge_near(p, a, b)
 }
 
 // Each slot of block b takes its state after the act, the last slot first.
+// Kept: the bytes and their header, since it changes the bytes that a Picture lends.
+#[tactic(auto, using(crate::proofs::Headers::read_within))]
 fn put_states(s: &mut [u8], h: Header, a: Act, b: usize)
     requires { Read s.old h × (b < block_count (picture_of s.old)) }
     ensures { s.new ≡ done_bytes a s.old b }
 {
-    let size = h.block_size;
-    let start = b * size;
-    let mut k = size;
-    while 0 < k {
-        let v = start + k;
-        let state = picture::slot_state(s, h, v);
-        picture::put_state(s, h, v, after(a, state));
-        k -= 1;
+    let start = b * h.block_size + 1;
+    for v in (start..start + h.block_size).rev() {
+        let state = picture::state_of(s, h, v);
+        picture::put_state(s, h, v, after(a, state).number());
     }
 }
 
 // An act on block b of a picture of any bytes: done, or refused, and then no byte is written.
-#[tactic(auto, using(crate::proofs::Answering::refused_answer, crate::proofs::Answering::refused_numbers, crate::proofs::Answering::refused_some, crate::proofs::Answering::refused_bytes, crate::proofs::Answering::done_answer, crate::proofs::Answering::done_numbers, crate::proofs::Answering::done_bytes_lem))]
-fn apply(s: &mut [u8], a: Act, b: u32) -> Acting
+fn apply(s: &mut [u8], a: Act, b: u32) -> Result<(), Refusal>
     ensures answer { result ≡ acting a s.old b }
     ensures numbers { acting_numbers result ≡ outcome (act_fault a s.old b) [] }
-    ensures refusals { result ≢ Acting.Refused 0 }
     ensures bytes { s.new ≡ act_bytes a s.old b }
 {
-    match picture::read(s) {
-        Reading::Refused(number) => Acting::Refused(number),
-        Reading::Accepted(h) => {
-            let number = act_fault(s, h, a, b as usize);
-            if number != 0 {
-                return Acting::Refused(number);
-            }
-            put_states(s, h, a, b as usize);
-            Acting::Done
-        }
-    }
+    let p = Picture::read(s)?;
+    // Kept: usize has no From<u32>.
+    judge(&p, a, b as usize)?;
+    let h = p.header();
+    put_states(s, h, a, b as usize);
+    Ok(())
 }
 
 // The held slots of block b become recoverable.
-pub fn evict(s: &mut [u8], b: u32) -> Acting
+pub fn evict(s: &mut [u8], b: u32) -> Result<(), Refusal>
     ensures answer { result ≡ acting Act.Evict s.old b }
     ensures numbers { acting_numbers result ≡ outcome (act_fault Act.Evict s.old b) [] }
-    ensures refusals { result ≢ Acting.Refused 0 }
     ensures bytes { s.new ≡ act_bytes Act.Evict s.old b }
 {
     apply(s, Act::Evict, b)
 }
 
 // The recoverable slots of block b become held.
-pub fn reload(s: &mut [u8], b: u32) -> Acting
+pub fn reload(s: &mut [u8], b: u32) -> Result<(), Refusal>
     ensures answer { result ≡ acting Act.Reload s.old b }
     ensures numbers { acting_numbers result ≡ outcome (act_fault Act.Reload s.old b) [] }
-    ensures refusals { result ≢ Acting.Refused 0 }
     ensures bytes { s.new ≡ act_bytes Act.Reload s.old b }
 {
     apply(s, Act::Reload, b)
 }
 
 // The held and the recoverable slots of block b become freed.
-pub fn free(s: &mut [u8], b: u32) -> Acting
+pub fn free(s: &mut [u8], b: u32) -> Result<(), Refusal>
     ensures answer { result ≡ acting Act.Free s.old b }
     ensures numbers { acting_numbers result ≡ outcome (act_fault Act.Free s.old b) [] }
-    ensures refusals { result ≢ Acting.Refused 0 }
     ensures bytes { s.new ≡ act_bytes Act.Free s.old b }
 {
     apply(s, Act::Free, b)

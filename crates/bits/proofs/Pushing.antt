@@ -1,12 +1,19 @@
 -- A field behind what is written: byte by byte, and what is left is held. Assumes nothing.
 use mathlib.Core.Path.{◌≡◌, refl, sym, ap, ap₂, ◌∙◌}
-use mathlib.Core.List.{List}
+use mathlib.Core.List.{List, ◌++◌}
+use Rattle.std.proofs.Common.{append_assoc}
+use Rattle.std.proofs.lemmas.List.Edits.{paste_all, sets-eq}
+use Rattle.std.proofs.lemmas.Slice.{put_mid-paste}
 use Prim.Native.Nat.{ℕ, zero, suc, ◌+◌, ◌-◌, ◌*◌, ◌/◌, ◌%◌, ◌^◌, ◌≤◌, ◌<◌}
 use native.Mathlib.Omega.{arith}
-use native.Mathlib.Nat.{mod-lt, mod-eq_of_lt}
+use native.Mathlib.Nat.{mod-lt, mod-eq_of_lt, div-one, pow-suc}
 use native.Mathlib.Numerals.{add-one}
-use lib.ListN.{length, get_or, set}
-use lib.Pow.{pow_pos, shr-shr, mod-pow-add, high, low}
+use lib.ListN.{length, get_or, set, take, drop, length-set}
+use lib.Pow.{pow_pos, pow-add, shr-shr, mod-pow-add, high, low}
+use Rattle.std.specs.Int.{byte_at, bytes_high_first}
+use Rattle.std.proofs.Math.Seq.{sets}
+use Rattle.std.proofs.lemmas.Grind.{common_steps}
+use borrow.Rule.Slice.PartMut.{put_mid}
 use Rattle.bits.specs.Bits.{set_bit, put_field}
 use Rattle.bits.specs.Pushing.{flushed, Pushed}
 use Rattle.bits.proofs.Writing.{patched, length_put_field, put_field_zero, put_field_join, put_field_byte}
@@ -47,9 +54,8 @@ module _ {old : List ℕ} {p w all : ℕ} where
       let none : p % 8 + w - (p % 8 + w) ≡ 0 = omega arith in
       record { within = omega arith; place = omega arith; bytes = b; done = sym (ap (λ (d : ℕ). put_field old (p / 8 * 8) d (all / 2 ^ (p % 8 + w))) none ∙ put_field_zero old (p / 8 * 8) _) }
 
-  pub push_next : {s t : List ℕ} {left k : ℕ} → Pushing old p w all s left k → 8 ≤ left → k < length s → t ≡ set s k (all / 2 ^ (left - 8) % 256)
-      → ((j : ℕ) → get_or t j 0 < 256) → Pushing old p w all t (left - 8) (k + 1)
-  push_next {s} {t} {left} {k} i h room e b =
+  pub push_next : {s : List ℕ} {left k : ℕ} → Pushing old p w all s left k → 8 ≤ left → k < length s → Pushing old p w all (set s k (all / 2 ^ (left - 8) % 256)) (left - 8) (k + 1)
+  push_next {s} {left} {k} i h room =
       let q = p / 8 * 8 in
       let d = p % 8 + w - left in
       let x = all / 2 ^ (left - 8) in
@@ -60,9 +66,9 @@ module _ {old : List ℕ} {p w all : ℕ} where
       record {
         within = omega (arith, i.within);
         place = omega (arith, i.place);
-        bytes = b;
+        bytes = λ j. grind (arith, common_steps, i.bytes j);
         done =
-            e ∙ sym (put_field_store s k x room (i.bytes k)) ∙ ap₂ (λ (z : List ℕ) (n : ℕ). put_field z n 8 x) (i.done ∙ ap (put_field old q d) digits) place
+            sym (put_field_store s k x room (i.bytes k)) ∙ ap₂ (λ (z : List ℕ) (n : ℕ). put_field z n 8 x) (i.done ∙ ap (put_field old q d) digits) place
             ∙ sym (put_field_join old q d 8 x) ∙ ap (λ (n : ℕ). put_field old q n x) more;
       }
 
@@ -87,22 +93,44 @@ module _ {old : List ℕ} {p w all : ℕ} where
         small = rw (last, f) (mod-lt all (pow_pos left));
       }
 
--- ---- a field of c whole bytes, from byte k on
-
-pub bytes_begun : (old : List ℕ) (k c v : ℕ) → ((j : ℕ) → get_or old j 0 < 256) → Pushing old (k * 8) (c * 8) v old (c * 8) k
-bytes_begun old k c v b =
-    let left : k * 8 % 8 + c * 8 ≡ c * 8 = omega arith in
-    let place : k * 8 / 8 ≡ k = omega arith in
-    rw (left, place) at (push_begun {old = old} {p = k * 8} {w = c * 8} {all = v} b)
-
-pub bytes_ended : {old new : List ℕ} (k c : ℕ) {v j : ℕ} → Pushing old (k * 8) (c * 8) v new 0 j → new ≡ put_field old (k * 8) (c * 8) v
-bytes_ended {old} {new} k c {v} i =
-    let place : k * 8 / 8 * 8 ≡ k * 8 = omega arith in
-    let width : k * 8 % 8 + c * 8 - 0 ≡ c * 8 = omega arith in
-    i.done ∙ ap₂ (λ (q w : ℕ). put_field old q w (v / 2 ^ 0)) place width ∙ ap (put_field old (k * 8) (c * 8)) (omega arith)
-
 pub pushing_long : {old new : List ℕ} {p w all left k : ℕ} → Pushing old p w all new left k → length new ≡ length old
 pushing_long {old} i = ap length i.done ∙ length_put_field old _ _ _
+
+-- ---- whole bytes
+
+of_256 : (c : ℕ) → 256 ^ c ≡ 2 ^ (c * 8)
+of_256 zero = refl
+of_256 (suc c) = let e : suc c * 8 ≡ c * 8 + 8 = omega arith in rw (pow-suc, of_256 c, e, pow-add 2 (c * 8) 8)
+
+-- byte c of a number, counted from the lowest
+byte_digits : (c v : ℕ) → byte_at c v ≡ v / 2 ^ (c * 8) % 256
+byte_digits zero v = ap (λ (x : ℕ). x % 256) (sym (div-one v))
+byte_digits (suc c) v = ap (λ (x : ℕ). v / x % 256) (of_256 (suc c))
+
+length_bytes : (c v : ℕ) → length (bytes_high_first c v) ≡ c
+length_bytes zero v = refl
+length_bytes (suc c) v = ap suc (length_bytes c v)
+
+-- a field of c whole bytes, from byte k on
+put_field_bytes : (c : ℕ) (bs : List ℕ) (k v : ℕ) → ((j : ℕ) → get_or bs j 0 < 256) → k + c ≤ length bs → put_field bs (k * 8) (c * 8) v ≡ sets bs k (bytes_high_first c v)
+put_field_bytes zero bs k v small h = put_field_zero bs (k * 8) v
+put_field_bytes (suc c) bs k v small h =
+    let width : suc c * 8 ≡ 8 + c * 8 = omega arith in
+    let place : k * 8 + 8 ≡ suc k * 8 = omega arith in
+    let room : k < length bs = omega arith in
+    let byte : byte_at c v < 256 = rw byte_digits (omega arith) in
+    let first : put_field bs (k * 8) 8 (v / 2 ^ (c * 8)) ≡ set bs k (byte_at c v) = put_field_store bs k (v / 2 ^ (c * 8)) room (small k) ∙ ap (set bs k) (sym (byte_digits c v)) in
+    ap (λ (w : ℕ). put_field bs (k * 8) w v) width ∙ put_field_join bs (k * 8) 8 (c * 8) v
+    ∙ ap₂ (λ (z : List ℕ) (p : ℕ). put_field z p (c * 8) v) first place
+    ∙ put_field_bytes c (set bs k (byte_at c v)) (suc k) v (λ j. grind (arith, common_steps, small j)) (omega (arith, length-set bs k (byte_at c v)))
+
+-- the bytes that are copied to a slice's part
+pub bytes_copied : (bs ys : List ℕ) (k n c v : ℕ) → ((j : ℕ) → get_or bs j 0 < 256) → k + c ≤ length bs → n ≡ c → ys ≡ bytes_high_first c v → put_mid k n bs ys ≡ put_field bs (k * 8) (c * 8) v
+bytes_copied bs ys k n c v small h e f =
+    let zs : List ℕ = bytes_high_first c v in
+    let long : length zs ≡ c = length_bytes c v in
+    put_mid-paste k n bs ys zs c f (sym e) (sym long) ∙ paste_all bs k zs c (sym long) ∙ sym (append_assoc (take k bs) zs (drop (k + c) bs))
+    ∙ ap (λ (m : ℕ). take k bs ++ zs ++ drop (k + m) bs) (sym long) ∙ sym (sets-eq zs bs k (omega (arith, long))) ∙ sym (put_field_bytes c bs k v small h)
 
 -- the bytes keep their number
 pub flushed_long : (bs : List ℕ) (p held : ℕ) → length (flushed bs p held) ≡ length bs

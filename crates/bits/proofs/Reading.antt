@@ -63,10 +63,6 @@ field_at_below bs p w k e h = rw e (lt_of_lt_of_le (field_at_lt bs p w) (pow_mon
 
 -- ---- adjacent fields
 
-pub field_at_zero : (bs : List ℕ) (p : ℕ) → field_at bs p 0 ≡ 0
-unfolding field_at number
-field_at_zero bs p = refl
-
 -- two adjacent fields are the field of their joint width
 pub field_at_join : (bs : List ℕ) (p a b : ℕ) → field_at bs p (a + b) ≡ field_at bs p a * 2 ^ b + field_at bs (p + a) b
 unfolding field_at number
@@ -107,19 +103,23 @@ field_at_byte bs k h =
         let place : 7 - (k * 8 + i) % 8 ≡ 8 - suc i = omega arith in
         ap₂ (λ (j e : ℕ). get_or bs j 0 / 2 ^ e % 2) byte place
 
--- so what has no digits before a byte is the field of that byte
-pub field_at_first : (bs : List ℕ) (k : ℕ) {r : ℕ} → get_or bs k 0 < 256 → r ≡ 0 * 256 + get_or bs k 0 → r ≡ field_at bs (k * 8) 8
-field_at_first bs k h e = omega (arith, e, field_at_byte bs k h)
-
--- one byte more: v is the bytes from k on up to i, and r is v with byte k + i behind it
-pub field_at_more : (bs : List ℕ) (k i : ℕ) {v r : ℕ} → v ≡ field_at bs (k * 8) (i * 8) → get_or bs (k + i) 0 < 256 → r ≡ v * 256 + get_or bs (k + i) 0
-    → r ≡ field_at bs (k * 8) ((i + 1) * 8)
-field_at_more bs k i {v} {r} e h f =
+-- one byte more behind i of them
+field_at_more : (bs : List ℕ) (k i : ℕ) → get_or bs (k + i) 0 < 256 → field_at bs (k * 8) ((i + 1) * 8) ≡ field_at bs (k * 8) (i * 8) * 256 + get_or bs (k + i) 0
+field_at_more bs k i h =
     let width : (i + 1) * 8 ≡ i * 8 + 8 = omega arith in
     let place : k * 8 + i * 8 ≡ (k + i) * 8 = omega arith in
-    let joined : field_at bs (k * 8) ((i + 1) * 8) ≡ field_at bs (k * 8) (i * 8) * 256 + field_at bs (k * 8 + i * 8) 8 = ap (field_at bs (k * 8)) width ∙ field_at_join bs (k * 8) (i * 8) 8 in
-    let byte : field_at bs (k * 8 + i * 8) 8 ≡ get_or bs (k + i) 0 = ap (λ (q : ℕ). field_at bs q 8) place ∙ field_at_byte bs (k + i) h in
-    omega arith
+    rw (width, field_at_join bs (k * 8) (i * 8) 8, place, field_at_byte bs (k + i) h)
+
+-- two, three and four bytes
+module _ (bs : List ℕ) (k : ℕ) (small : (j : ℕ) → get_or bs j 0 < 256) where
+  pub field_at_two : field_at bs (k * 8) 16 ≡ get_or bs k 0 * 2 ^ 8 + get_or bs (k + 1) 0
+  field_at_two = omega (arith, field_at_byte bs k (small k), field_at_more bs k 1 (small (k + 1)))
+
+  pub field_at_three : field_at bs (k * 8) 24 ≡ get_or bs k 0 * 2 ^ 16 + get_or bs (k + 1) 0 * 2 ^ 8 + get_or bs (k + 2) 0
+  field_at_three = omega (arith, field_at_two, field_at_more bs k 2 (small (k + 2)))
+
+  pub field_at_four : field_at bs (k * 8) 32 ≡ get_or bs k 0 * 2 ^ 24 + get_or bs (k + 1) 0 * 2 ^ 16 + get_or bs (k + 2) 0 * 2 ^ 8 + get_or bs (k + 3) 0
+  field_at_four = omega (arith, field_at_three, field_at_more bs k 3 (small (k + 3)))
 
 -- a field of the s bytes from byte t on is a field of all of them
 pub field_at_part : (bs : List ℕ) (t s p w : ℕ) → p + w ≤ s * 8 → field_at (take s (drop t bs)) p w ≡ field_at bs (t * 8 + p) w

@@ -245,16 +245,16 @@ put_field_byte bs p (suc w) v h l =
 
 -- ---- a field written by chunks, and a byte made by shifts
 
--- of the w digits of v, done are written, and the next n are written behind them
-pub put_field_chunk : (bs : List ℕ) (p w v done n : ℕ) → done + n ≤ w
-    → put_field (put_field bs p done (v / 2 ^ (w - done))) (p + done) n (v / 2 ^ (w - done - n)) ≡ put_field bs p (done + n) (v / 2 ^ (w - (done + n)))
-put_field_chunk bs p w v done n h =
-    let more : w - done ≡ w - done - n + n = omega arith in
-    let left : w - done - n ≡ w - (done + n) = omega arith in
-    let digits : v / 2 ^ (w - done) ≡ v / 2 ^ (w - done - n) / 2 ^ n = ap (λ (e : ℕ). v / 2 ^ e) more ∙ sym (shr-shr v (w - done - n) n) in
-    ap (λ (z : ℕ). put_field (put_field bs p done z) (p + done) n (v / 2 ^ (w - done - n))) digits
-    ∙ sym (put_field_join bs p done n (v / 2 ^ (w - done - n)))
-    ∙ ap (λ (e : ℕ). put_field bs p (done + n) (v / 2 ^ e)) left
+-- of the w digits of v, done are written, and the next n are written behind them, so that some are left
+pub put_field_chunk : (bs : List ℕ) (p w v done at n left : ℕ) {s : List ℕ} → s ≡ put_field bs p done (v / 2 ^ (w - done)) → at ≡ p + done → done + n + left ≡ w
+    → put_field s at n (v / 2 ^ left) ≡ put_field bs p (done + n) (v / 2 ^ (w - (done + n)))
+put_field_chunk bs p w v done at n left {s} e f g =
+    let more : w - done ≡ left + n = omega arith in
+    let rest : left ≡ w - (done + n) = omega arith in
+    let digits : v / 2 ^ (w - done) ≡ v / 2 ^ left / 2 ^ n = ap (λ (k : ℕ). v / 2 ^ k) more ∙ sym (shr-shr v left n) in
+    ap₂ (λ (z : List ℕ) (q : ℕ). put_field z q n (v / 2 ^ left)) (e ∙ ap (put_field bs p done) digits) f
+    ∙ sym (put_field_join bs p done n (v / 2 ^ left))
+    ∙ ap (λ (k : ℕ). put_field bs p (done + n) (v / 2 ^ k)) rest
 
 -- digits of a number in place are at most the number
 pub digits_le : (b k w : ℕ) → b / 2 ^ k % 2 ^ w * 2 ^ k ≤ b

@@ -12,6 +12,7 @@ use std::io::{Read, Stdin};
 const INPUT_BYTES: usize = PICTURE_MAX + 1;
 
 // Reads until the buffer is full or the input ends: how many bytes it put at the buffer's front.
+// Kept: `read_to_end` needs a heap, `read_exact` loses the count of a short input, and after `io::copy` "at most the buffer's length" stayed open.
 fn read_full(input: &mut Stdin, buf: &mut [u8]) -> io::Result<usize>
     ensures { ReadsAtMost result buf.new }
 {

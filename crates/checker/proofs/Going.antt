@@ -13,7 +13,7 @@ use Rattle.lists.specs.Lists.{range, any}
 use Rattle.lists.proofs.Ranges.{length_range}
 use Rattle.lists.proofs.Picks.{range_at}
 use Rattle.lists.proofs.Faults.{Clean, scan_begun, scan_miss, scan_hit, scan_ended}
-use Rattle.rows.specs.Rows.{marked, linked_in, words_for, Narrow, With, Minus, Meet, slots_max, locations_max, marks_max, row_words}
+use Rattle.rows.specs.Rows.{marked, linked_in, words_for, Narrow, With, Minus, Meet, slots_max, marks_max, row_words}
 use Rattle.rows.specs.declared.Range.{Range}
 use Rattle.rows.specs.Ranges.{in_range, without}
 use Rattle.rows.proofs.Ranges.{any_in_range}
@@ -23,19 +23,20 @@ use Rattle.graph.specs.Held.{held_in}
 use Rattle.graph.specs.Kept.{ForestKept}
 use Rattle.graph.proofs.Keeping.{reached_kept, kept_reached}
 use Rattle.picture.specs.declared.Header.{Header}
-use Rattle.picture.specs.Layout.{blocks_max, endpoints_max}
+use Rattle.picture.specs.Layout.{blocks_max, edition_of}
 use Rattle.picture.specs.Picture.{Picture, picture_of}
 use Rattle.picture.specs.Inner.{Limited, Read}
-use Rattle.picture.proofs.Facts.{read_limited, read_slots_most}
+use Rattle.picture.proofs.Facts.{read_edition, read_limited, read_slots_most}
 use Rattle.network.specs.Words.{slot_count, endpoint_count, is_held, joins, Named}
 use Rattle.network.specs.Tests.{marks, served, weighed, candidates}
-use Rattle.network.specs.Rows.{RowsOf, SlotRowsOf, EndpointsOf}
+use Rattle.network.specs.declared.Tables.{Tables}
+use Rattle.network.specs.Rows.{SlotRowsOf, TablesOf}
 use Rattle.network.proofs.Named.{accepted_named}
 use Rattle.network.proofs.Candidates.{candidates_below}
 use Rattle.weigh.specs.declared.Lost.{Lost}
-use Rattle.weigh.specs.Sums.{Small, Meets, LostBetween}
+use Rattle.weigh.specs.Sums.{Meets, LostBetween}
 use Rattle.network.proofs.Blocks.{read_slots, read_block_size, read_endpoints, read_block}
-use Rattle.weigh.proofs.Serving.{serving, sums_ready, served_met, loss_met, cuts_met, mark_met}
+use Rattle.weigh.proofs.Serving.{serving, served_met, loss_met, cuts_met, mark_met}
 use Rattle.evidence.specs.Layout.{forest_at, evidence_bytes}
 use Rattle.evidence.specs.Contents.{section_in, forest_in}
 use Rattle.evidence.specs.Checks.{node_right, form_right}
@@ -45,9 +46,9 @@ use Rattle.evidence.proofs.Forests.{test_in, in_test}
 use Rattle.evidence.proofs.Judging.{right_form}
 use Rattle.evidence.proofs.Places.{forest_place_low}
 use Rattle.evidence.proofs.Lengths.{forest_starts, forest_room}
-use Rattle.checker.specs.Forests.{Room, evicted_in, stated_test, part_fault, parts_fault, CutsOf}
-use Rattle.checker.proofs.Nodes.{forest_length}
-use Rattle.checker.proofs.Following.{Followed, Closed, node_broken, evicted_broken, link_broken, inner_in, inner_within, forest_kept}
+use Rattle.checker.specs.Forests.{Room, node_from, evicted_in, stated_test, part_fault, parts_fault, CutsOf}
+use Rattle.checker.proofs.Nodes.{forest_length, node_read}
+use Rattle.checker.proofs.Following.{Followed, followed_in, followed_out, Closed, node_broken, evicted_broken, link_broken, inner_in, inner_within, forest_kept}
 use Rattle.checker.proofs.Parts.{block_at, held_at, stated_at, part_broken, part_wrong, part_right, formed_block, held_found, stated_found}
 
 -- the parts of evidence
@@ -76,7 +77,7 @@ sides_narrow less r i = (r, i)
 
 -- ---- what is known
 
--- what the code has at hand: a picture and evidence, the picture's header, the words that its rows take, and these rows
+-- what the code has at hand: a picture and evidence, the picture's header, the words that its rows take, and its tables
 pub record Given : Type 0 where
   pub bs : List ℕ
   pub ev : List ℕ
@@ -84,13 +85,10 @@ pub record Given : Type 0 where
   pub h : Header
   pub count : ℕ
   pub words : ℕ
-  pub links : List (List ℕ)
-  pub services : List (List ℕ)
-  pub weights : List ℕ
-  pub guarded : List ℕ
+  pub tables : Tables
 
-abbrev pub given : List ℕ → List ℕ → List ℕ → Header → ℕ → ℕ → List (List ℕ) → List (List ℕ) → List ℕ → List ℕ → Given
-given s e held h c k l v w g = record { bs = s; ev = e; held = held; h = h; count = c; words = k; links = l; services = v; weights = w; guarded = g }
+abbrev pub given : List ℕ → List ℕ → List ℕ → Header → ℕ → ℕ → Tables → Given
+given s e held h c k t = record { bs = s; ev = e; held = held; h = h; count = c; words = k; tables = t }
 
 abbrev pic : Given → Picture
 pic x = picture_of x.bs
@@ -100,7 +98,7 @@ fault_of x = part_fault x.bs x.ev
 
 -- a row serves what is served where this is held
 abbrev Serves : Given → (ℕ → Bool) → List ℕ → Type 0
-Serves x held row = Meets x.services row (served (pic x) (marks (pic x) held))
+Serves x held row = Meets x.tables.services row (served (pic x) (marks (pic x) held))
 
 -- where the forest of part k starts, and the forest from bit q on
 abbrev start_of : Given → ℕ → ℕ
@@ -118,23 +116,21 @@ abbrev Kept : Given → ℕ → Type 0
 Kept x k = ForestKept (joins (pic x).links) (held_at (pic x) k) x.h.slots (forest x (start_of x k))
 
 -- the rows are the picture's, and the evidence has its form
-pub record Tables (x : Given) : Type 0 where
+pub record Ready (x : Given) : Type 0 where
   pub read : Read x.bs x.h
   pub few_slots : x.h.slots ≤ slots_max
   pub few_parts : x.count ≤ blocks_max
   pub few_words : x.words ≡ words_for x.h.slots
   pub near : List ℕ
   pub slots : SlotRowsOf (pic x) x.held near
-  pub link_rows : RowsOf locations_max (joins (pic x).links) x.links
-  pub service_rows : RowsOf (suc endpoints_max) (λ c a. joins (pic x).service_links a c) x.services
-  pub end_rows : EndpointsOf (pic x) x.weights x.guarded
+  pub made : TablesOf (pic x) x.tables
   pub form : Form x.h.edition (pic x) x.ev
   pub counted : x.count ≡ length (candidates (pic x))
   pub room : (k : ℕ) → 1 ≤ k → k ≤ x.count → section_block x k * x.h.block_size + x.h.block_size ≤ slots_max
 
 -- the parts before k have no fault, and after the first the row marks what is reached with nothing evicted; it is in the words that are looked at
 pub record Gone (x : Given) (row : List ℕ) (k : ℕ) : Type 0 where
-  pub tables : Tables x
+  pub ready : Ready x
   pub clean : Clean (fault_of x) 0 (parts x.bs) k
   pub reached : 1 ≤ k → Serves x (is_held (pic x)) row
   pub narrow : Narrow x.words row
@@ -152,6 +148,16 @@ pub record PartAt (x : Given) (row : List ℕ) (k at : ℕ) (evicted : Range) : 
   pub slots : evicted ≡ evicted_in x.h.block_size (section_block x k) k
   pub low : evicted.last < marks_max
 
+-- the slots below v of the forest at byte `at` are followed
+abbrev pub Seen : Given → ℕ → List ℕ → ℕ → Type 0
+Seen x at = Followed x.tables.links (held_in x.held) (forest x (at * 8))
+
+-- all slots of the forest are
+pub record AllSeen (x : Given) (at : ℕ) (slots : List ℕ) : Type 0 where
+  pub v : ℕ
+  pub followed : Seen x at slots v
+  pub ended : x.h.slots < v
+
 -- the slots of its forest were followed: these are in it, and these are held and not in it
 pub record Inside (x : Given) (row : List ℕ) (k : ℕ) (evicted : Range) (inner outer : List ℕ) : Type 0 where
   pub at : ℕ
@@ -159,10 +165,18 @@ pub record Inside (x : Given) (row : List ℕ) (k : ℕ) (evicted : Range) (inne
   pub part : PartAt x row k at evicted
   pub with : With slots 0 inner
   pub minus : Minus x.held inner outer
-  pub v : ℕ
-  pub followed : Followed x.links (held_in x.held) (forest x (at * 8)) slots v
-  pub ended : x.h.slots < v
+  pub seen : AllSeen x at slots
   pub apart : (u : ℕ) → T (in_range evicted u) → ¬ T (marked slots u)
+
+-- no link of a location below a leads from the forest to what is outside
+abbrev pub Shut : Given → Range → List ℕ → List ℕ → ℕ → Type 0
+Shut x evicted inner outer = Closed x.tables.links inner (without evicted (marked outer))
+
+-- none of any location does
+pub record AllShut (x : Given) (evicted : Range) (inner outer : List ℕ) : Type 0 where
+  pub a : ℕ
+  pub closed : Shut x evicted inner outer a
+  pub ended : x.h.slots < a
 
 -- the slots that are evicted have a place in rows
 evicted_low : (size b k : ℕ) → (1 ≤ k → b * size + size ≤ slots_max) → (evicted_in size b k).last < marks_max
@@ -172,13 +186,12 @@ evicted_low size b (suc i) h = rw (eqb-suc-zero i) (omega (arith, h (suc-le-suc 
 
 -- ---- the tables
 
-module _ {bs ev held : List ℕ} {count words : ℕ} {links services : List (List ℕ)} {weights guarded : List ℕ} {h : Header} (r : Read bs h) where
-  pub tables_made : let p = picture_of bs in (near : List ℕ) × SlotRowsOf p held near → form_right h.edition p ev ≡ true → count ≡ length (candidates p)
-      → words ≡ words_for h.slots → RowsOf locations_max (joins p.links) links → RowsOf (suc endpoints_max) (λ c a. joins p.service_links a c) services
-      → EndpointsOf p weights guarded → Tables (given bs ev held h count words links services weights guarded)
-  tables_made s f c w l v e =
+module _ {bs ev held : List ℕ} {count words : ℕ} {tables : Tables} {h : Header} (r : Read bs h) where
+  pub tables_made : let p = picture_of bs in (near : List ℕ) × SlotRowsOf p held near → form_right (edition_of bs) p ev ≡ true → count ≡ length (candidates p)
+      → words ≡ words_for h.slots → TablesOf p tables → Ready (given bs ev held h count words tables)
+  tables_made s f c w t =
       let p = picture_of bs in
-      let form = right_form h.edition p ev (rw f tt) in
+      let form = right_form h.edition p ev (rw (read_edition bs h r, f) tt) in
       record {
         read = r;
         few_slots = read_slots_most bs h r;
@@ -186,9 +199,7 @@ module _ {bs ev held : List ℕ} {count words : ℕ} {links services : List (Lis
         few_words = w;
         near = s.0;
         slots = s.1;
-        link_rows = l;
-        service_rows = v;
-        end_rows = e;
+        made = t;
         form = form;
         counted = c;
         room = λ k a b.
@@ -197,7 +208,7 @@ module _ {bs ev held : List ℕ} {count words : ℕ} {links services : List (Lis
       }
 
 -- what they say by the header that was read
-module _ {x : Given} (t : Tables x) where
+module _ {x : Given} (t : Ready x) where
   pub table_limited : Limited x.h
   table_limited = read_limited x.bs x.h t.read
 
@@ -249,10 +260,10 @@ record Found (x : Given) (k : ℕ) (lost : Lost) : Type 0 where
   pub cuts : (i : ℕ) → k ≡ suc i → lost.count ≡ (weighed (pic x) (block_at (pic x) i)).cuts
 
 module _ {x : Given} where
-  pub gone_begun : Tables x → Gone x (replicate row_words 0) 0
+  pub gone_begun : Ready x → Gone x (replicate row_words 0) 0
   gone_begun t =
       record {
-        tables = t;
+        ready = t;
         clean = scan_begun (fault_of x) 0 (parts x.bs);
         reached = λ l. absurd (omega arith);
         narrow = clear_narrow row_words (held_narrow t).most;
@@ -262,31 +273,31 @@ module _ {x : Given} where
   pub gone_ended : {row : List ℕ} {k : ℕ} → Gone x row k → x.count < k → 0 ≡ parts_fault x.bs x.ev
   unfolding parts_fault
   gone_ended {k = k} g l =
-      scan_ended (fault_of x) 0 (parts x.bs) k g.clean (omega (arith, length_range 0 (suc (length (candidates (pic x)))), g.tables.counted))
+      scan_ended (fault_of x) 0 (parts x.bs) k g.clean (omega (arith, length_range 0 (suc (length (candidates (pic x)))), g.ready.counted))
 
   -- a part is at hand
   pub part_begun : {row : List ℕ} {k at : ℕ} {evicted : Range} → Gone x row k → k ≤ x.count → at ≡ start_of x k / 8
       → evicted ≡ evicted_in x.h.block_size (section_block x k) k → PartAt x row k at evicted
   part_begun {k = k} {evicted = evicted} g l e h =
-      let t = g.tables in
+      let t = g.ready in
       let last : evicted.last < marks_max = rw h (evicted_low x.h.block_size (section_block x k) k (λ s. t.room k s l)) in
       record { gone = g; most = l; starts = rw e (table_starts t k); room = rw e (table_room t l); slots = h; low = last }
 
-  module _ (t : Tables x) {row inner : List ℕ} where
+  module _ (t : Ready x) {row inner : List ℕ} where
     sums_found : {k : ℕ} {before after : List ℕ} {lost : Lost} → Sides row inner k before after → Serves x (held_at (pic x) k) inner
-        → (1 ≤ k → Serves x (is_held (pic x)) row) → LostBetween x.services x.weights x.guarded x.h.endpoints before after lost → Found x k lost
+        → (1 ≤ k → Serves x (is_held (pic x)) row) → LostBetween x.tables.services x.tables.weights x.tables.protected x.h.endpoints before after lost → Found x k lost
     unfolding held_at stated_at
     sums_found whole now r s =
-        record { weight = served_met t.end_rows (table_endpoints t) now (clear row_words) s; mark = λ l. absurd (omega arith); cuts = λ i e. absurd (omega arith) }
+        record { weight = served_met t.made.ends (table_endpoints t) now (clear row_words) s; mark = λ l. absurd (omega arith); cuts = λ i e. absurd (omega arith) }
     sums_found (less {i = j}) now r s =
         let all = r (suc-le-suc zero-le) in
         let b = block_at (pic x) j in
         record {
-          weight = loss_met t.end_rows (table_endpoints t) all b now s;
-          mark = λ _. mark_met t.end_rows (table_endpoints t) all b now s;
+          weight = loss_met t.made.ends (table_endpoints t) all b now s;
+          mark = λ _. mark_met t.made.ends (table_endpoints t) all b now s;
           cuts = λ i e.
               let same : j ≡ i = omega arith in
-              cuts_met t.end_rows (table_endpoints t) all b now s ∙ ap (λ (u : ℕ). (weighed (pic x) (block_at (pic x) u)).cuts) same;
+              cuts_met t.made.ends (table_endpoints t) all b now s ∙ ap (λ (u : ℕ). (weighed (pic x) (block_at (pic x) u)).cuts) same;
         }
 
     still : {k : ℕ} {before after : List ℕ} → Sides row inner k before after → Serves x (held_at (pic x) k) inner → (1 ≤ k → Serves x (is_held (pic x)) row)
@@ -296,8 +307,8 @@ module _ {x : Given} where
     still less now r = r (suc-le-suc zero-le)
 
   module _ {row : List ℕ} {k at : ℕ} {evicted : Range} (a : PartAt x row k at evicted) where
-    abbrev t : Tables x
-    t = a.gone.tables
+    abbrev t : Ready x
+    t = a.gone.ready
 
     abbrev es : List Node
     es = forest x (at * 8)
@@ -313,24 +324,31 @@ module _ {x : Given} where
         (e ∙ ap (fault_of x) (sym (part_of x.bs k most))) z
 
     -- the rows say what the picture says
-    same : ForestKept (linked_in x.links) (without evicted (held_in x.held)) x.h.slots es ≡ Kept x k
+    same : ForestKept (linked_in x.tables.links) (without evicted (held_in x.held)) x.h.slots es ≡ Kept x k
     same =
-        let links-same : linked_in x.links ≡ joins (pic x).links = fun_ext (λ u. fun_ext (λ v. t.link_rows.same u v)) in
+        let links-same : linked_in x.tables.links ≡ joins (pic x).links = fun_ext (λ u. fun_ext (λ v. t.made.links.same u v)) in
         let holds = held_found x.bs x.ev t.read t.form t.slots k most in
         let held_same : without evicted (held_in x.held) ≡ held_at (pic x) k = rw (a.slots, ← read_block_size x.bs x.h t.read) (fun_ext holds) in
         rw (links-same, held_same, a.starts)
 
-    broken : ¬ ForestKept (linked_in x.links) (without evicted (held_in x.held)) x.h.slots es → 14 ≡ parts_fault x.bs x.ev
+    broken : ¬ ForestKept (linked_in x.tables.links) (without evicted (held_in x.held)) x.h.slots es → 14 ≡ parts_fault x.bs x.ev
     broken b = stopped (λ z. absurd (omega arith)) (part_broken x.bs x.ev t.read k most (λ y. b (rw same y)))
 
     -- a slot breaks its rule
-    pub part_node : {v : ℕ} → 1 ≤ v → v ≤ x.h.slots → node_right (linked_in x.links) (held_in x.held) es v ≡ false → 14 ≡ parts_fault x.bs x.ev
-    part_node l m e = broken (node_broken (linked_in x.links) (held_in x.held) evicted es l m e)
+    pub part_node : {v : ℕ} → 1 ≤ v → v ≤ x.h.slots → node_right (linked_in x.tables.links) (held_in x.held) es v ≡ false → 14 ≡ parts_fault x.bs x.ev
+    part_node l m e = broken (node_broken (linked_in x.tables.links) (held_in x.held) evicted es l m e)
+
+    -- it keeps its rule, and is in the forest or is not
+    pub part_seen : {v : ℕ} {slots slots' : List ℕ} {y : Node} → 1 ≤ v → v ≤ x.h.slots → Seen x at slots v → y ≡ node_from x.h.edition x.ev (at * 8) v
+        → node_right (linked_in x.tables.links) (held_in x.held) es v ≡ true → ((y.depth ≢ 0) × With slots v slots') ⊎ ((y.depth ≡ 0) × (slots' ≡ slots)) → Seen x at slots' (v + 1)
+    part_seen l m f e r (inl i) = followed_in l f r (rw (node_read _ _ _ _ _ l m, ← e) i.0) i.1
+    part_seen l m f e r (inr o) = rw o.1 (followed_out l f r (rw (node_read _ _ _ _ _ l m, ← e) o.0))
 
     -- an evicted slot is in the forest
-    pub part_evicted : {slots : List ℕ} {v : ℕ} → Followed x.links (held_in x.held) es slots v → x.h.slots < v → T (any (marked slots) (range (evicted.after + 1) (evicted.last - evicted.after)))
-        → 14 ≡ parts_fault x.bs x.ev
-    part_evicted f e t = let s = any_in_range evicted _ t in broken (evicted_broken x.held evicted (forest_length x.h.edition x.h.slots x.ev (at * 8)) f e s.0 s.1 s.2)
+    pub part_evicted : {slots : List ℕ} → AllSeen x at slots → T (any (marked slots) (range (evicted.after + 1) (evicted.last - evicted.after))) → 14 ≡ parts_fault x.bs x.ev
+    part_evicted s t =
+        let u = any_in_range evicted _ t in
+        broken (evicted_broken x.held evicted (forest_length x.h.edition x.h.slots x.ev (at * 8)) s.followed s.ended u.0 u.1 u.2)
 
   module _ {row : List ℕ} {k : ℕ} {evicted : Range} {inner outer : List ℕ} (i : Inside x row k evicted inner outer) where
     abbrev g : Gone x row k
@@ -341,49 +359,46 @@ module _ {x : Given} where
 
     -- what is in the forest and what is held and not in it are in the words that are looked at
     inner_narrow : Narrow x.words inner
-    inner_narrow = table_narrow g.tables inner (inner_within x.held evicted len i.followed i.ended i.with i.minus)
+    inner_narrow = table_narrow g.ready inner (inner_within x.held evicted len i.seen.followed i.seen.ended i.with i.minus)
 
     pub outer_narrow : Narrow x.words outer
-    outer_narrow = less_narrow (held_narrow g.tables) i.minus
+    outer_narrow = less_narrow (held_narrow g.ready) i.minus
 
-    -- so the sums over the two sides may be made
-    pub part_ready : {before after : List ℕ} → Sides row inner k before after
-        → Small x.weights × (length x.services ≡ suc endpoints_max) × (x.h.endpoints ≤ endpoints_max) × Narrow x.words before × Narrow x.words after
-    part_ready y =
-        let n = sides_narrow y g.narrow inner_narrow in
-        sums_ready x.bs x.h g.tables.read g.tables.service_rows g.tables.end_rows n.0 n.1
+    -- so the two sides of the sums are
+    pub part_narrow : {before after : List ℕ} → Sides row inner k before after → Narrow x.words before × Narrow x.words after
+    part_narrow y = sides_narrow y g.narrow inner_narrow
 
     -- a link leads out of the forest
-    pub part_link : (u : ℕ) → T (marked inner u) → Meet (marked (get_or x.links u [])) (without evicted (marked outer)) true → 14 ≡ parts_fault x.bs x.ev
-    part_link u m y = broken i.part (link_broken x.held evicted len i.followed i.ended i.with i.minus u m y)
+    pub part_link : (u : ℕ) → T (marked inner u) → Meet (marked (get_or x.tables.links u [])) (without evicted (marked outer)) true → 14 ≡ parts_fault x.bs x.ev
+    part_link u m y = broken i.part (link_broken x.held evicted len i.seen.followed i.seen.ended i.with i.minus u m y)
 
-    module _ {a : ℕ} (c : Closed x.links inner (without evicted (marked outer)) a) (looked : x.h.slots < a) {before after : List ℕ} (y : Sides row inner k before after) {lost : Lost}
-        (s : LostBetween x.services x.weights x.guarded x.h.endpoints before after lost) where
+    module _ (c : AllShut x evicted inner outer) {before after : List ℕ} (y : Sides row inner k before after) {lost : Lost}
+        (s : LostBetween x.tables.services x.tables.weights x.tables.protected x.h.endpoints before after lost) where
       kept : Kept x k
       kept =
-          let low : (u v : ℕ) → T (linked_in x.links u v) → u ≤ x.h.slots =
-          λ u v j. omega (arith, table_slots g.tables, ((table_named g.tables).links u v (subst T (g.tables.link_rows.same u v) j)).0) in
-          rw (same i.part) at (forest_kept x.held evicted len i.followed i.ended i.with i.minus i.apart low c looked)
+          let low : (u v : ℕ) → T (linked_in x.tables.links u v) → u ≤ x.h.slots =
+          λ u v j. omega (arith, table_slots g.ready, ((table_named g.ready).links u v (subst T (g.ready.made.links.same u v) j)).0) in
+          rw (same i.part) at (forest_kept x.held evicted len i.seen.followed i.seen.ended i.with i.minus i.apart low c.closed c.ended)
 
       now : Serves x (held_at (pic x) k) inner
       now =
-          let here = inner_in x.held evicted len i.followed i.ended i.with i.minus in
+          let here = inner_in x.held evicted len i.seen.followed i.seen.ended i.with i.minus in
           let fit = rw (← i.part.starts) at kept in
-          serving (pic x) (held_at (pic x) k) (table_named g.tables) g.tables.service_rows (λ v z. kept_reached fit len v (test_in _ v (subst T (here v) z)))
+          serving (pic x) (held_at (pic x) k) (table_named g.ready) g.ready.made.services (λ v z. kept_reached fit len v (test_in _ v (subst T (here v) z)))
           (λ v z. subst T (sym (here v)) (in_test _ v (reached_kept fit z)))
 
       sums : Found x k lost
-      sums = sums_found g.tables y now g.reached s
+      sums = sums_found g.ready y now g.reached s
 
       stated : stated_test x.h.edition x.h.slots x.ev k lost.weight lost.mark ≡ stated_test x.h.edition x.h.slots x.ev k (stated_at (pic x) k).loss (stated_at (pic x) k).mark
-      stated = stated_found x.bs x.ev g.tables.read k sums.weight sums.mark
+      stated = stated_found x.bs x.ev g.ready.read k sums.weight sums.mark
 
       -- the number of endpoints that a section's block cuts is kept in its place; the first forest has none
       pub part_counted : {cuts cuts' : List ℕ} → Counted x cuts k → ((k ≡ 0) × (cuts' ≡ cuts)) ⊎ ((k ≢ 0) × (cuts' ≡ set cuts (k - 1) lost.count)) → Counted x cuts' (k + 1)
       part_counted {cuts} c (inl e) = rw e.1 (record { many = c.many; same = λ u h. absurd (omega (arith, e.0)) })
       part_counted {cuts} c (inr e) =
           let some = e.0 in
-          let room : k - 1 < length cuts = omega (arith, c.many, i.part.most, g.tables.few_parts) in
+          let room : k - 1 < length cuts = omega (arith, c.many, i.part.most, g.ready.few_parts) in
           rw e.1
           (record {
             many = length-set cuts (k - 1) lost.count ∙ c.many;
@@ -395,15 +410,15 @@ module _ {x : Given} where
 
       -- what is stated is wrong
       pub part_stated : stated_test x.h.edition x.h.slots x.ev k lost.weight lost.mark ≡ false → 15 ≡ parts_fault x.bs x.ev
-      part_stated e = stopped i.part (λ z. absurd (omega arith)) (part_wrong x.bs x.ev g.tables.read k (most i.part) kept (sym stated ∙ e))
+      part_stated e = stopped i.part (λ z. absurd (omega arith)) (part_wrong x.bs x.ev g.ready.read k (most i.part) kept (sym stated ∙ e))
 
       -- the part has no fault
       pub part_gone : stated_test x.h.edition x.h.slots x.ev k lost.weight lost.mark ≡ true → Gone x before (k + 1)
       part_gone e =
-          let none = part_right x.bs x.ev g.tables.read k (most i.part) kept (sym stated ∙ e) in
+          let none = part_right x.bs x.ev g.ready.read k (most i.part) kept (sym stated ∙ e) in
           record {
-            tables = g.tables;
+            ready = g.ready;
             clean = scan_miss (fault_of x) 0 (parts x.bs) k g.clean (ap (fault_of x) (part_of x.bs k (most i.part)) ∙ none);
-            reached = λ _. still g.tables y now g.reached;
-            narrow = (sides_narrow y g.narrow inner_narrow).0;
+            reached = λ _. still g.ready y now g.reached;
+            narrow = (part_narrow y).0;
           }

@@ -2,19 +2,22 @@
 use mathlib.Core.Path.{◌≡◌, refl, sym, ap₂, ◌∙◌}
 use mathlib.Core.Bool.{Bool, true, false, not, and-false, and-true}
 use mathlib.Core.Logic.{◌≢◌}
-use mathlib.Core.List.{List}
+use mathlib.Core.List.{List, []}
 use Prim.Native.Nat.{ℕ, suc, ◌+◌, ◌-◌, ◌*◌, ◌^◌, ◌≤◌, ◌<◌}
 use native.Mathlib.Omega.{arith}
 use native.Mathlib.Nat.{mul-le-mul_right, suc-mul}
 use borrow.Author.Tests.{eq-eqb, ne_eqb}
 use lib.Dec.{eqb}
-use lib.ListN.{length}
+use lib.ListN.{length, get_or}
 use Rattle.lists.specs.Lists.{item, sum}
 use Rattle.lists.proofs.Tests.{eqb_comm}
 use Rattle.bits.specs.Bits.{field_at}
 use Rattle.bits.proofs.Reading.{field_at_below}
 use Rattle.graph.specs.declared.Node.{Node}
 use Rattle.graph.specs.Kept.{node_of}
+use Rattle.graph.specs.Held.{held_in}
+use Rattle.graph.proofs.Held.{slot_held}
+use Rattle.rows.specs.Rows.{marked, linked_in}
 use Rattle.graph.proofs.Keeping.{node_above}
 use Rattle.picture.specs.declared.Edition.{Edition}
 use Rattle.picture.specs.declared.Header.{Header}
@@ -72,42 +75,63 @@ module _ (es : List Node) where
   unfolding is_in
   above_in v l = rw (ne_eqb v 0 (omega arith), node_above es v l)
 
--- ---- the test of slot v, whose node is x
+-- ---- the test of slot v, whose node is x: by the nodes as they are read, and by the rows of what is held and of the links
 
-module _ (linked : ℕ → ℕ → Bool) (held : ℕ → Bool) (es : List Node) (v : ℕ) {x : Node} (e : node_of es v ≡ x) where
-  pub node_outside : x.depth ≡ 0 → eqb x.parent 0 ≡ node_right linked held es v
+module _ (e : Edition) (n : ℕ) (ev : List ℕ) (q : ℕ) (table : List (List ℕ)) (row : List ℕ) (v : ℕ) (x : Node) (some : 1 ≤ v) (most : v ≤ n) (own : x ≡ node_from e ev q v) where
+  abbrev es : List Node
+  es = forest_in e n ev q
+
+  abbrev right : Bool
+  right = node_right (linked_in table) (held_in row) es v
+
+  read : node_of es v ≡ x
+  read = node_read e n ev q v some most ∙ sym own
+
+  held : held_in row v ≡ marked row v
+  held = sym (slot_held row v some)
+
+  pub node_outside : x.depth ≡ 0 → eqb x.parent 0 ≡ right
   unfolding node_right
-  node_outside z = rw (e, eq-eqb x.depth 0 z)
+  node_outside z = rw (read, eq-eqb x.depth 0 z)
 
   module _ (deep : x.depth ≢ 0) where
-    pub node_not_held : held v ≡ false → false ≡ node_right linked held es v
+    pub node_not_held : marked row v ≡ false → false ≡ right
     unfolding node_right
-    node_not_held h = rw (e, ne_eqb x.depth 0 deep, h)
+    node_not_held h = rw (read, ne_eqb x.depth 0 deep, held, h)
 
-    pub node_parent_out : is_in es x.parent ≡ false → false ≡ node_right linked held es v
+    parent_out : is_in es x.parent ≡ false → false ≡ right
     unfolding node_right
-    node_parent_out i = rw (e, ne_eqb x.depth 0 deep, i, and-false (held v))
+    parent_out i = rw (read, ne_eqb x.depth 0 deep, i, and-false (held_in row v))
 
-    pub node_not_linked : linked x.parent v ≡ false → false ≡ node_right linked held es v
-    unfolding node_right
-    node_not_linked l = rw (e, ne_eqb x.depth 0 deep, l) (simp and-false)
+    -- the parent is above the slots, or is one with depth 0
+    pub node_parent_above : n < x.parent → false ≡ right
+    node_parent_above l = parent_out (above_in es x.parent (rw forest_length l))
+
+    pub node_parent_freed : (k : Node) → x.parent ≢ 0 → x.parent ≤ n → k ≡ node_from e ev q x.parent → k.depth ≡ 0 → false ≡ right
+    node_parent_freed k above low parent freed =
+        let above_some : 1 ≤ x.parent = omega arith in
+        let told : node_of es x.parent ≡ k = node_read e n ev q x.parent above_some low ∙ sym parent in
+        parent_out (slot_in es x.parent above_some ∙ rw (told, eq-eqb _ _ freed))
+
+    pub node_not_linked : marked (get_or table x.parent []) v ≡ false → false ≡ right
+    unfolding node_right linked_in
+    node_not_linked l = rw (read, ne_eqb x.depth 0 deep, l) (simp and-false)
 
     -- held, linked, and its parent in the forest: the depths are compared
-    pub node_depths : held v ≡ true → linked x.parent v ≡ true → is_in es x.parent ≡ true
-        → eqb ((node_of es x.parent).depth + 1) x.depth ≡ node_right linked held es v
-    unfolding node_right
-    node_depths h l i = rw (e, ne_eqb x.depth 0 deep, h, i, l) (simp and-true)
+    module _ (h : marked row v ≡ true) (l : marked (get_or table x.parent []) v ≡ true) where
+      depths : is_in es x.parent ≡ true → eqb ((node_of es x.parent).depth + 1) x.depth ≡ right
+      unfolding node_right linked_in
+      depths i = rw (read, ne_eqb x.depth 0 deep, held, h, i, l) (simp and-true)
 
-    -- the same of a parent that is the origin
-    pub node_root : held v ≡ true → linked x.parent v ≡ true → x.parent ≡ 0 → eqb x.depth 1 ≡ node_right linked held es v
-    unfolding is_in node_of item
-    node_root h l z = eqb_comm x.depth 1 ∙ rw z at (node_depths h l (rw z))
+      pub node_root : x.parent ≡ 0 → eqb x.depth 1 ≡ right
+      unfolding is_in node_of item
+      node_root z = eqb_comm x.depth 1 ∙ rw z at (depths (rw z))
 
--- a node whose parent is a slot with depth 0 is refused: by the nodes as they are read
-pub node_parent_freed : (e : Edition) (n : ℕ) (ev : List ℕ) (q : ℕ) (linked : ℕ → ℕ → Bool) (held : ℕ → Bool) (v : ℕ) (x k : Node) → 1 ≤ v → v ≤ n → x ≡ node_from e ev q v
-    → x.depth ≢ 0 → x.parent ≢ 0 → x.parent ≤ n → k ≡ node_from e ev q x.parent → k.depth ≡ 0 → false ≡ node_right linked held (forest_in e n ev q) v
-node_parent_freed e n ev q linked held v x k some most own deep above low parent freed =
-    let above_some : 1 ≤ x.parent = omega arith in
-    let told : node_of (forest_in e n ev q) x.parent ≡ k = node_read e n ev q x.parent above_some low ∙ sym parent in
-    node_parent_out linked held (forest_in e n ev q) v (node_read e n ev q v some most ∙ sym own) deep
-    (slot_in (forest_in e n ev q) x.parent above_some ∙ rw (told, eq-eqb _ _ freed))
+      pub node_depths : (k : Node) → x.parent ≢ 0 → x.parent ≤ n → k ≡ node_from e ev q x.parent → k.depth ≢ 0 → eqb (k.depth + 1) x.depth ≡ right
+      node_depths k above low parent some =
+          let above_some : 1 ≤ x.parent = omega arith in
+          let told : node_of es x.parent ≡ k = node_read e n ev q x.parent above_some low ∙ sym parent in
+          rw (← told) (depths (slot_in es x.parent above_some ∙ rw (told, ne_eqb _ _ some)))
+
+-- what each return of the test comes to, and that the sum of a depth and one fits
+pub ruleset node_tests = (node_outside, node_not_held, node_parent_above, node_parent_freed, node_not_linked, node_root, node_depths, depth_small)

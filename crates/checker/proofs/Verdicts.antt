@@ -1,53 +1,44 @@
--- The verdict that the sections imply, section by section. Assumes nothing.
-use mathlib.Core.Path.{◌≡◌, refl, sym}
-use mathlib.Core.Bool.{false}
-use mathlib.Core.Logic.{◌≢◌}
-use mathlib.Core.List.{List, [], ◌∷◌, ◌++◌, map-append}
-use Prim.Native.Nat.{ℕ, ◌+◌}
+-- What the sections state, one by one, and the choice that they imply. Assumes nothing.
+use Rattle.std.proofs.Common.{take_all}
+use Rattle.std.proofs.lemmas.List.{take_more}
+use mathlib.Core.Path.{◌≡◌, refl, sym, ◌∙◌}
+use mathlib.Core.List.{List, []}
+use Prim.Native.Nat.{ℕ, ◌+◌, ◌≤◌, ◌<◌}
 use native.Mathlib.Nat.{zero-add}
-use native.Mathlib.Numerals.{add-one}
-use borrow.Author.Tests.{eq-eqb, ne_eqb}
-use lib.Dec.{eqb}
-use Rattle.lists.specs.Lists.{range, any}
-use Rattle.lists.proofs.Growing.{range_more}
+use lib.ListN.{length, get_or, take, length-map}
+use Rattle.std.specs.Prelude.{Option, None}
+use Rattle.lists.specs.Lists.{range}
+use Rattle.lists.proofs.Ranges.{length_range, get_d_map_range}
 use Rattle.picture.specs.declared.Edition.{Edition}
-use Rattle.evidence.specs.declared.Head.{Head}
-use Rattle.evidence.specs.declared.Choice.{Choice}
-use Rattle.evidence.specs.Canonical.{no_choice, bettered, bettering, least}
-use Rattle.evidence.specs.Contents.{head_in}
-use Rattle.evidence.specs.Checks.{is_named, verdict_right}
+use Rattle.network.specs.declared.Cost.{Cost}
+use Rattle.evidence.specs.Canonical.{no_cost, bettered, bettering, least}
 use Rattle.evidence.proofs.Least.{least_last}
 use Rattle.checker.specs.Verdict.{cost_in, stated}
 
 module _ (e : Edition) (n : ℕ) (ev cuts : List ℕ) where
-  -- no section implies a choice yet
-  pub implied_begun : no_choice ≡ least (stated e n ev cuts 0)
-  unfolding stated range least bettering
-  implied_begun = refl
-
-  -- one section more
-  stated_more : (i : ℕ) → stated e n ev cuts (i + 1) ≡ stated e n ev cuts i ++ (cost_in e n ev cuts i ∷ [])
+  pub stated_length : length (stated e n ev cuts) ≡ length cuts
   unfolding stated
-  stated_more i = rw (add-one i, range_more 0 i, zero-add i) (map-append (cost_in e n ev cuts) (range 0 i) (i ∷ []))
+  stated_length = length-map (range 0 (length cuts)) (cost_in e n ev cuts) ∙ length_range 0 (length cuts)
 
-  pub implied_next : {best : Choice} (i : ℕ) → best ≡ least (stated e n ev cuts i) → bettered best (cost_in e n ev cuts i) ≡ least (stated e n ev cuts (i + 1))
-  implied_next i so = rw (so, stated_more i) (sym (least_last (stated e n ev cuts i) (cost_in e n ev cuts i)))
+  pub stated_cost : (i : ℕ) → i < length cuts → get_or (stated e n ev cuts) i no_cost ≡ cost_in e n ev cuts i
+  unfolding stated
+  stated_cost i l = rw zero-add at (get_d_map_range (cost_in e n ev cuts) no_cost 0 (length cuts) i l)
 
-  -- the verdict of the head, against what all sections imply
-  module _ (count : ℕ) {h : Head} (says : h ≡ head_in ev) {best : Choice} (last : best ≡ least (stated e n ev cuts count)) where
-    pub verdict_differs : h.verdict ≢ best.verdict → false ≡ verdict_right ev (stated e n ev cuts count)
-    unfolding verdict_right
-    verdict_differs d = rw (← says, ← last, ne_eqb _ _ d)
+-- how many there are, and each
+pub ruleset stating = (stated_length, stated_cost)
 
-    module _ (v : h.verdict ≡ best.verdict) where
-      pub loss_differs : h.loss ≢ best.loss → false ≡ verdict_right ev (stated e n ev cuts count)
-      unfolding verdict_right
-      loss_differs d = rw (← says, ← last, eq-eqb _ _ v, ne_eqb _ _ d)
+-- no section implies a choice yet
+pub least_begun : None ≡ least []
+unfolding least bettering
+least_begun = refl
 
-      pub none_right : h.loss ≡ best.loss → best.verdict ≡ 0 → eqb h.block 0 ≡ verdict_right ev (stated e n ev cuts count)
-      unfolding verdict_right
-      none_right l z = rw (← says, ← last, eq-eqb _ _ v, eq-eqb _ _ l, eq-eqb _ _ z)
+-- one section more
+pub least_more : (ws : List Cost) (i : ℕ) (best : Option Cost) → i < length ws → best ≡ least (take i ws) → bettered best (get_or ws i no_cost) ≡ least (take (i + 1) ws)
+least_more ws i best l so = rw (so, take_more ws i no_cost l) (sym (least_last (take i ws) (get_or ws i no_cost)))
 
-      pub chosen_right : h.loss ≡ best.loss → best.verdict ≢ 0 → any (is_named h.block best) (stated e n ev cuts count) ≡ verdict_right ev (stated e n ev cuts count)
-      unfolding verdict_right
-      chosen_right l z = rw (← says, ← last, eq-eqb _ _ v, eq-eqb _ _ l, ne_eqb _ _ z)
+-- every section was looked at
+pub least_ended : (ws : List Cost) (i : ℕ) (best : Option Cost) → length ws ≤ i → best ≡ least (take i ws) → best ≡ least ws
+least_ended ws i best l so = rw take_all at so
+
+-- the choice that sections imply, from the first to the last
+pub ruleset choosing = (least_begun, least_more, least_ended)

@@ -1,5 +1,5 @@
 -- What the sections of evidence state, and where the first section of a block stands. Assumes nothing.
-use Rattle.std.specs.Prelude.{List, map, ℕ, eqb, get_or}
+use Rattle.std.specs.Prelude.{List, map, ℕ, eqb, length, get_or}
 use Rattle.lists.specs.Lists.{range, place}
 use Rattle.picture.specs.declared.Edition.{Edition}
 use Rattle.network.specs.declared.Cost.{Cost}
@@ -12,9 +12,9 @@ cost_in e n ev cuts i =
     let w : Stated = section_in e n ev i in
     record { block = w.block; loss = w.loss; cuts = get_or cuts i 0; mark = w.mark }
 
--- the same of all sections, in their order
-unfoldable pub stated : Edition → ℕ → List ℕ → List ℕ → ℕ → List Cost
-stated e n ev cuts count = map (cost_in e n ev cuts) (range 0 count)
+-- the same of all sections, in their order: there is such a number for each
+unfoldable pub stated : Edition → ℕ → List ℕ → List ℕ → List Cost
+stated e n ev cuts = map (cost_in e n ev cuts) (range 0 (length cuts))
 
 -- the place of the first section of block b, or their number where none is
 unfoldable pub section_named : Edition → ℕ → List ℕ → ℕ → ℕ → ℕ

@@ -3,9 +3,10 @@ ghost use Rattle.std.specs.Prelude.{◌≡◌, true, List, ℕ, ◌+◌, ◌-◌
 ghost use Rattle.rows.specs.Rows.{marked, linked_in, Narrow, Meet, locations_max, row_words, slots_max};
 ghost use Rattle.rows.specs.Ranges.{without};
 ghost use Rattle.graph.specs.Held.{held_in};
-ghost use Rattle.picture.specs.Layout.{blocks_max};
+ghost use Rattle.picture.specs.Layout.{blocks_max, edition_of};
+ghost use Rattle.picture.specs.Refusals.{fault_of};
 ghost use Rattle.picture.specs.Picture.{picture_of};
-ghost use Rattle.picture.specs.Inner.{Limited, Read};
+ghost use Rattle.picture.specs.Inner.{Limited};
 ghost use Rattle.network.specs.Tests.{candidates};
 ghost use Rattle.network.specs.Rows.{SlotRowsOf};
 ghost use Rattle.evidence.specs.Contents.{section_in, forest_in};
@@ -14,9 +15,8 @@ ghost use Rattle.checker.specs.Forests.{Room, node_from, evicted_in, stated_test
 
 use evidence::BYTE_BITS;
 use graph::Node;
-use network::ENDPOINTS;
-use picture::refusals::{FOREST, WEIGHT};
-use picture::{BLOCKS_MAX, Header};
+use network::Tables;
+use picture::{BLOCKS_MAX, Header, Picture, Refusal};
 use rows::{LOCATIONS, Range, WORDS};
 use weigh::Lost;
 
@@ -35,7 +35,7 @@ fn node_at(ev: &[u8], h: Header, at: usize, v: usize) -> Node
 }
 
 // Whether the node x of slot v keeps its rule in the forest that starts at byte `at`, where nothing is evicted.
-#[tactic(auto, using(crate::proofs::Nodes::node_parent_freed))]
+#[tactic(auto, using(crate::proofs::Nodes::node_tests))]
 fn node_right(
     links: &[[u64; WORDS]; LOCATIONS],
     held: &[u64; WORDS],
@@ -49,34 +49,21 @@ fn node_right(
     requires x_value { x ≡ node_from h.edition ev.now (at * 8) v }
     ensures { result ≡ node_right (linked_in links.now) (held_in held.now) (forest_in h.edition h.slots ev.now (at * 8)) v }
 {
-    let n = h.slots;
-    let parent = x.parent;
-    let depth = x.depth;
-    if depth == 0 {
-        return parent == 0;
+    if x.depth == 0 {
+        return x.parent == 0;
     }
-    let holds = rows::has(held, v);
-    if !holds {
+    if !rows::has(held, v) || h.slots < x.parent || !rows::has(&links[x.parent], v) {
         return false;
     }
-    if n < parent {
-        return false;
+    if x.parent == 0 {
+        return x.depth == 1;
     }
-    let linked = rows::has(&links[parent], v);
-    if !linked {
-        return false;
-    }
-    if parent == 0 {
-        return depth == 1;
-    }
-    let above = node_at(ev, h, at, parent).depth;
-    if above == 0 {
-        return false;
-    }
-    above + 1 == depth
+    let above = node_at(ev, h, at, x.parent).depth;
+    above != 0 && above + 1 == x.depth
 }
 
 // The slots that are evicted in part k: those of a section's block.
+#[tactic(auto, unfolding(crate::specs::Forests::evicted_in))]
 fn evicted_in(ev: &[u8], h: Header, k: usize) -> Range
     requires { Limited h × (k ≤ 255)
         × (1 ≤ k → (section_in h.edition h.slots ev.now (k - 1)).block * h.block_size + h.block_size ≤ slots_max) }
@@ -89,88 +76,79 @@ fn evicted_in(ev: &[u8], h: Header, k: usize) -> Range
 }
 
 // Whether two rows have a mark in common that is not of an evicted slot.
+#[tactic(auto, using(crate::proofs::Outside::apart_next, crate::proofs::Outside::apart_found))]
 fn meet_unevicted(row: &[u64; WORDS], other: &[u64; WORDS], words: usize, evicted: Range) -> bool
     requires { (length other.now ≡ row_words) × Narrow words other.now }
     ensures { Meet (marked row.now) (without evicted (marked other.now)) result }
 {
-    let mut i: usize = 0;
-    while i < words {
+    for i in 0..words {
         if rows::leave_out(row[i] & other[i], i * 64, evicted) != 0 {
             return true;
         }
-        i += 1;
     }
     false
 }
 
 // The same for a location's row of links and what is held outside the forest. Most rows lead to nothing there, so the first look is the only
 // one.
+#[tactic(auto, using(crate::proofs::Outside::apart_all))]
 fn leads_out(row: &[u64; WORDS], outside: &[u64; WORDS], words: usize, evicted: Range) -> bool
     requires { (length outside.now ≡ row_words) × Narrow words outside.now }
     ensures { Meet (marked row.now) (without evicted (marked outside.now)) result }
 {
-    if rows::meet(row, outside, words) {
-        return meet_unevicted(row, outside, words, evicted);
-    }
-    false
+    rows::meet(row, outside, words) && meet_unevicted(row, outside, words, evicted)
 }
 
 // Whether part k states this weight and mark: the served weight, or the loss and the mark of a section.
+#[tactic(auto, unfolding(crate::specs::Forests::stated_test))]
 fn stated_right(ev: &[u8], h: Header, k: usize, lost: Lost) -> bool
     requires { Limited h × (k ≤ 255) }
     ensures { result ≡ stated_test h.edition h.slots ev.now k lost.weight lost.mark }
 {
+    // Kept: usize has no From<u32>.
     let weight = lost.weight as usize;
-    let mark = lost.mark as usize;
+    let mark = usize::from(lost.mark);
     if k == 0 {
         return evidence::head_of(ev).served == weight;
     }
     let w = evidence::section_of(ev, h, k - 1);
-    if w.loss != weight {
-        return false;
-    }
-    w.mark == mark
+    w.loss == weight && w.mark == mark
 }
 
-// The first fault of the forests and of the weights that are stated of them, or 0: part by part, slot by slot, and the links of each
-// location in the forest. Part 0 is the first forest, and part i + 1 is section i. Without a fault, `cuts` then has for each section how
-// many endpoints its block cuts, by these forests.
-pub fn parts_fault(
-    s: &[u8],
-    h: Header,
+// The forests and the weights that are stated of them have no fault: part by part, slot by slot, and the links of each location in the
+// forest. Part 0 is the first forest, and part i + 1 is section i. Without a fault, `cuts` then has for each section how many endpoints its
+// block cuts, by these forests.
+pub fn judge_parts(
+    p: &Picture,
     ev: &[u8],
     held: [u64; WORDS],
     count: usize,
     cuts: &mut [u8; BLOCKS_MAX],
-) -> u8
-    requires read { Read s.now h × ((near : List ℕ) × SlotRowsOf (picture_of s.now) held near) × (form_right h.edition (picture_of s.now) ev.now ≡ true) × (count ≡ length (candidates (picture_of s.now))) }
+) -> Result<(), Refusal>
+    requires read { ((near : List ℕ) × SlotRowsOf (picture_of p.now) held near) × (form_right (edition_of p.now) (picture_of p.now) ev.now ≡ true) × (count ≡ length (candidates (picture_of p.now))) }
     requires cuts_len { length cuts.old ≡ blocks_max }
-    ensures value { result ≡ parts_fault s.now ev.now }
-    ensures cuts_of { result ≡ 0 → CutsOf (picture_of s.now) cuts.new count }
+    ensures value { fault_of result ≡ parts_fault p.now ev.now }
+    ensures cuts_of { fault_of result ≡ 0 → CutsOf (picture_of p.now) cuts.new count }
 {
+    let mut tables = Tables::empty();
+    tables.fill(p);
+    let h = p.header();
     let n = h.slots;
     let d = h.endpoints;
     let words = rows::words_for(n);
-    let mut links = [[0u64; WORDS]; LOCATIONS];
-    let mut services = [[0u64; WORDS]; ENDPOINTS];
-    let mut weights = [0u32; ENDPOINTS];
-    network::link_rows(s, h, &mut links);
-    network::service_link_rows(s, h, &mut services);
-    let protected = network::endpoint_rows(s, h, &mut weights);
     let none = [0u64; WORDS];
     let mut now = none;
-    let mut fault: u8 = 0;
-    let mut k: usize = 0;
-    'check: while k <= count {
+    let mut fault = Ok(());
+    'check: for k in 0..=count {
         let at = evidence::forest_at(h, k) / BYTE_BITS;
         let evicted = evicted_in(ev, h, k);
         let mut slots = none;
-        let mut v: usize = 1;
+        // Kept: a `for` here takes three percent more instructions for a check of a full picture, since the loop then ends by another test.
+        let mut v = 1;
         while v <= n {
             let x = node_at(ev, h, at, v);
-            let right = node_right(&links, &held, ev, h, at, v, x);
-            if !right {
-                fault = FOREST;
+            if !node_right(&tables.links, &held, ev, h, at, v, x) {
+                fault = Err(Refusal::Forest);
                 break 'check;
             }
             if x.depth != 0 {
@@ -180,25 +158,23 @@ pub fn parts_fault(
         }
         // The rules of the slots were judged as if nothing were evicted.
         if rows::marks_any(&slots, evicted) {
-            fault = FOREST;
+            fault = Err(Refusal::Forest);
             break 'check;
         }
         let mut inside = slots;
         rows::add(&mut inside, 0);
         let outside = rows::minus(held, inside, words);
         // Where only evicted slots are outside, no link that counts leads there, and none need be looked at.
-        let mut a: usize = n + 1;
-        if meet_unevicted(&outside, &outside, words, evicted) {
-            a = 0;
-        }
-        while a <= n {
-            if rows::has(&inside, a) {
-                if leads_out(&links[a], &outside, words, evicted) {
-                    fault = FOREST;
-                    break 'check;
-                }
+        let first = if meet_unevicted(&outside, &outside, words, evicted) {
+            0
+        } else {
+            n + 1
+        };
+        for a in first..=n {
+            if rows::has(&inside, a) && leads_out(&tables.links[a], &outside, words, evicted) {
+                fault = Err(Refusal::Forest);
+                break 'check;
             }
-            a += 1;
         }
         let mut still = none;
         if k == 0 {
@@ -206,16 +182,22 @@ pub fn parts_fault(
         } else {
             still = inside;
         }
-        let lost = weigh::lost_between(&services, &weights, protected, d, now, still, words);
-        let right = stated_right(ev, h, k, lost);
-        if !right {
-            fault = WEIGHT;
+        let lost = weigh::lost_between(
+            &tables.services,
+            &tables.weights,
+            tables.protected,
+            d,
+            now,
+            still,
+            words,
+        );
+        if !stated_right(ev, h, k, lost) {
+            fault = Err(Refusal::Weight);
             break 'check;
         }
         if k != 0 {
             cuts[k - 1] = lost.count;
         }
-        k += 1;
     }
     fault
 }

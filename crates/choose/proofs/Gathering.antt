@@ -7,6 +7,7 @@ use native.Mathlib.Omega.{arith}
 use native.Mathlib.Nat.{zero-add, suc-mul, mul-le-mul_right}
 use native.Mathlib.Numerals.{add-one}
 use lib.ListN.{length, length-append, length-map}
+use Rattle.std.specs.Prelude.{Option, None}
 use Rattle.lists.specs.Lists.{range, filter, flat}
 use Rattle.lists.proofs.Growing.{map-append, flat_map_more, filter_hit, filter_miss, filter_grows}
 use Rattle.lists.proofs.Scans.{count_hit}
@@ -18,9 +19,8 @@ use Rattle.picture.specs.Picture.{Picture}
 use Rattle.network.specs.declared.Cost.{Cost}
 use Rattle.network.specs.Words.{slot_count, block_count}
 use Rattle.network.specs.Tests.{weighed, is_candidate, candidates}
-use Rattle.evidence.specs.declared.Choice.{Choice}
 use Rattle.evidence.specs.Layout.{section_bytes}
-use Rattle.evidence.specs.Canonical.{no_choice, weighings, bettered, bettering, least, section_fields}
+use Rattle.evidence.specs.Canonical.{weighings, bettered, bettering, least, section_fields}
 use Rattle.evidence.proofs.Places.{sections_whole}
 use Rattle.evidence.proofs.Fields.{sections_span}
 use Rattle.evidence.proofs.Least.{least_last}
@@ -59,17 +59,17 @@ module _ (p : Picture) where
 -- ---- their sections, and the choice among them
 
 -- the sections of some costs stand from byte `at` on, byte q is behind them, and the choice is that among them
-pub record SectionsDone (h : Header) (p : Picture) (at : ℕ) (ws : List Cost) (buf buf' : List ℕ) (q : ℕ) (best : Choice) : Type 0 where
+pub record SectionsDone (h : Header) (p : Picture) (at : ℕ) (ws : List Cost) (buf buf' : List ℕ) (q : ℕ) (best : Option Cost) : Type 0 where
   pub behind : q ≡ at + length ws * section_bytes h.edition h.slots
   pub put : Put buf (at * 8) (flat (map (section_fields h.edition p) ws)) buf'
   pub choice : best ≡ least ws
 
 module _ (h : Header) (known : Known h.edition) (p : Picture) (z : slot_count p ≡ h.slots) where
-  pub sections_begun : (at : ℕ) (buf : List ℕ) → SectionsDone h p at (weighed_below p 0) buf buf at no_choice
+  pub sections_begun : (at : ℕ) (buf : List ℕ) → SectionsDone h p at (weighed_below p 0) buf buf at None
   unfolding weighed_below filter range flat least bettering
   sections_begun at buf = record { behind = omega arith; put = put_none buf (at * 8); choice = refl }
 
-  pub sections_hit : {at b q size : ℕ} {ws : List Cost} {buf mid buf' : List ℕ} {best best' : Choice} {w : Cost} → SectionsDone h p at ws buf mid q best
+  pub sections_hit : {at b q size : ℕ} {ws : List Cost} {buf mid buf' : List ℕ} {best best' : Option Cost} {w : Cost} → SectionsDone h p at ws buf mid q best
       → SectionDone h.edition p b q mid buf' w → best' ≡ bettered best w → size ≡ section_bytes h.edition h.slots
       → SectionsDone h p at (ws ++ (weighed p b ∷ [])) buf buf' (q + size) best'
   sections_hit {at} {b} {q} {size} {ws} s d f k =
@@ -80,11 +80,11 @@ module _ (h : Header) (known : Known h.edition) (p : Picture) (z : slot_count p 
         choice = f ∙ ap₂ bettered s.choice d.cost ∙ sym (least_last ws (weighed p b));
       }
 
-  pub sections_ended : {at q : ℕ} {buf buf' : List ℕ} {best : Choice} → SectionsDone h p at (weighings p) buf buf' q best → Sectioned h.edition p at buf buf' best
+  pub sections_ended : {at q : ℕ} {buf buf' : List ℕ} {best : Option Cost} → SectionsDone h p at (weighings p) buf buf' q best → Sectioned h.edition p at buf buf' best
   sections_ended s = record { put = s.put; choice = s.choice }
 
   -- where more candidates are to come, the next has room
-  pub room_more : {at q : ℕ} {ws : List Cost} {buf buf' : List ℕ} {best : Choice} → SectionsDone h p at ws buf buf' q best
+  pub room_more : {at q : ℕ} {ws : List Cost} {buf buf' : List ℕ} {best : Option Cost} → SectionsDone h p at ws buf buf' q best
       → length ws < length (candidates p) → Room h at (length (candidates p)) buf → Room h q 1 buf'
   room_more {ws = ws} s l o =
       let x = section_bytes h.edition h.slots in

@@ -7,21 +7,22 @@ use lib.Dec.{eqb, leb, ltb}
 use lib.ListN.{length, drop}
 use Rattle.lists.specs.Lists.{on, first, place}
 use Rattle.packing.specs.Packing.{packed}
+use Rattle.picture.specs.Refusals.{answer_of}
 use Rattle.picture.specs.Layout.{edition_of}
 use Rattle.picture.specs.Picture.{picture_of}
 use Rattle.picture.specs.Faults.{picture_fault}
 use Rattle.network.specs.Repeats.{Repeated}
 use Rattle.network.proofs.Repeats.{same_slots, same_blocks, repeated_served_weight, repeated_weighed, repeated_candidates}
-use Rattle.weigh.specs.Weighing.{block_fault, weigh_fault, weights_of, weighing_of, weighing}
+use Rattle.weigh.specs.Weighing.{block_fault, weigh_fault, weights_of, weighing}
 use Rattle.evidence.specs.declared.Part.{Part}
 use Rattle.evidence.specs.Layout.{section_at, section_bytes, evidence_bytes}
 use Rattle.evidence.specs.Canonical.{evidence_of}
 use Rattle.evidence.specs.Contents.{head_in}
 use Rattle.evidence.specs.Calls.{length_for, choose_fault, chosen_bytes, shown_part}
 use Rattle.evidence.proofs.Repeats.{repeated_evidence, repeated_check}
-use Rattle.choose.specs.Answers.{choosing_of, choosing}
-use Rattle.checker.specs.Answers.{checking_of, checking}
-use Rattle.acts.specs.Answers.{acting_of, acting}
+use Rattle.choose.specs.Answers.{choosing}
+use Rattle.checker.specs.Answers.{checking}
+use Rattle.acts.specs.Answers.{acting}
 use Rattle.acts.proofs.Repeats.{repeated_act, repeated_after}
 use Rattle.demands.specs.Repeats.{CountsOnce}
 
@@ -30,7 +31,7 @@ module _ (bs bs' : List ℕ) (one : edition_of bs ≡ edition_of bs') (fault : p
   unfolding weighing weigh_fault block_fault weights_of
   weighs b =
       λ i.
-      weighing_of (first (fault i ∷ on (leb (same_blocks r i) b) 8 ∷ []))
+      answer_of (first (fault i ∷ on (leb (same_blocks r i) b) 8 ∷ []))
       (record { served = repeated_served_weight r i; loss = (repeated_weighed r i b).loss; mark = (repeated_weighed r i b).mark })
 
   same_length : length_for bs ≡ length_for bs'
@@ -44,7 +45,7 @@ module _ (bs bs' : List ℕ) (one : edition_of bs ≡ edition_of bs') (fault : p
 
     chooses : choosing bs buf ≡ choosing bs' buf
     unfolding choosing
-    chooses = λ i. choosing_of (same_fault i) (same_length i)
+    chooses = λ i. answer_of (same_fault i) (same_length i)
 
     leaves : chosen_bytes bs buf ≡ chosen_bytes bs' buf
     unfolding chosen_bytes evidence_of
@@ -53,7 +54,7 @@ module _ (bs bs' : List ℕ) (one : edition_of bs ≡ edition_of bs') (fault : p
   module _ (ev : List ℕ) where
     checks : checking bs ev ≡ checking bs' ev
     unfolding checking
-    checks = ap checking_of (repeated_check bs bs' one fault r ev)
+    checks = ap (λ (k : ℕ). answer_of k tt) (repeated_check bs bs' one fault r ev)
 
     shows : shown_part bs ev ≡ shown_part bs' ev
     unfolding shown_part
@@ -74,6 +75,6 @@ counts_once bs bs' one ok ok' r =
       leaves = leaves bs bs' one fault r;
       checks = checks bs bs' one fault r;
       shows = shows bs bs' one fault r;
-      acts = λ a b. ap acting_of (repeated_act bs bs' ok ok' r a b);
+      acts = λ a b. ap (λ (k : ℕ). answer_of k tt) (repeated_act bs bs' ok ok' r a b);
       after = repeated_after bs bs' ok ok' r;
     }

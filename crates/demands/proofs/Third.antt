@@ -4,11 +4,10 @@ use mathlib.Core.Logic.{◌≢◌}
 use mathlib.Core.List.{List, [], ◌∷◌}
 use Prim.Native.Nat.{ℕ, ◌≤◌}
 use native.Mathlib.Omega.{arith}
-use Rattle.lists.specs.Lists.{outcome}
-use Rattle.lists.proofs.Answers.{outcome_zero}
 use Rattle.lists.proofs.Sums.{total_one}
 use Rattle.picture.specs.Picture.{Picture, picture_of}
 use Rattle.picture.specs.Faults.{picture_fault}
+use Rattle.picture.proofs.Refusing.{done_numbers, done_fault, done_unrefused}
 use Rattle.network.specs.Words.{is_held, Loss, CutCount, Candidate, Admissible}
 use Rattle.network.specs.Tests.{served_weight}
 use Rattle.network.proofs.Candidates.{candidate_below}
@@ -24,17 +23,13 @@ use Rattle.evidence.proofs.Lengths.{choose_takes, chosen_evidence}
 use Rattle.evidence.proofs.Passing.{check_passes, passes_check}
 use Rattle.evidence.proofs.Canonical.{own_passes}
 use Rattle.evidence.proofs.Unique.{verdict_named, same_verdict, same_cuts}
-use Rattle.choose.proofs.Answering.{choosing_numbers_lem}
-use Rattle.checker.specs.declared.Checking.TheVariants.{Passed, Refused as Unpassed}
-use Rattle.checker.specs.Answers.{checking_of, checking, checking_numbers}
-use Rattle.checker.proofs.Answering.{checking_numbers_lem}
+use Rattle.choose.specs.Answers.{choosing}
+use Rattle.checker.specs.Answers.{checking, checking_numbers}
 use Rattle.acts.specs.declared.Act.TheVariants.{Evict}
-use Rattle.acts.specs.declared.Acting.TheVariants.{Done, Refused as Undone}
 use Rattle.acts.specs.Faults.{act_fault}
-use Rattle.acts.specs.Answers.{act_bytes, acting_of, acting}
+use Rattle.acts.specs.Answers.{act_bytes, acting}
 use Rattle.acts.specs.Acts.{done_bytes}
 use Rattle.acts.proofs.Acted.{acted_accepted}
-use Rattle.acts.proofs.Answering.{acting_numbers_lem}
 use Rattle.acts.proofs.Evicted.{evicted_served}
 use Rattle.acts.proofs.Judged.{done_bytes_lem}
 use Rattle.acts.proofs.Choosable.{evict_candidate}
@@ -43,26 +38,21 @@ use Rattle.demands.specs.Demands.{Chooses, Checks, Evicts, written, verdict_in, 
 -- ---- what the calls answer where there is no fault
 
 chooses : (bs buf : List ℕ) → choose_fault bs buf ≡ 0 → Chooses bs buf
-unfolding outcome
-chooses bs buf z = choosing_numbers_lem bs buf ∙ ap (λ (k : ℕ). outcome k (length_for bs ∷ [])) z
+unfolding choosing
+chooses bs buf z = done_numbers _ (length_for bs) z
 
 checks : (bs ev : List ℕ) → check_fault bs ev ≡ 0 → Checks bs ev
-unfolding outcome checking checking_of
-checks bs ev z = record { number = checking_numbers_lem bs ev ∙ ap (λ (k : ℕ). outcome k []) z; unrefused = λ k e. never k (sym (ap checking_of z) ∙ e) }
-  where
-    never : (k : ℕ) → Passed ≢ Unpassed k
-    never k q = let z : ◌≡◌ {A = ℕ} 0 1 = cc in omega arith
+unfolding checking
+checks bs ev z = record { number = done_numbers _ tt z; unrefused = done_unrefused tt z }
 
 -- an answer of 0 is of evidence without a fault
 checked : (bs ev : List ℕ) → checking_numbers (checking bs ev) ≡ 0 ∷ [] → check_fault bs ev ≡ 0
-checked bs ev e = (outcome_zero (check_fault bs ev) (sym (checking_numbers_lem bs ev) ∙ e)).0
+unfolding checking
+checked bs ev e = done_fault (λ _. []) tt _ e
 
 evicts : (bs : List ℕ) (b : ℕ) → act_fault Evict bs b ≡ 0 → Evicts bs b
-unfolding outcome acting acting_of
-evicts bs b z = record { number = acting_numbers_lem Evict bs b ∙ ap (λ (k : ℕ). outcome k []) z; unrefused = λ k e. never k (sym (ap acting_of z) ∙ e) }
-  where
-    never : (k : ℕ) → Done ≢ Undone k
-    never k q = let z : ◌≡◌ {A = ℕ} 0 1 = cc in omega arith
+unfolding acting
+evicts bs b z = record { number = done_numbers _ tt z; unrefused = done_unrefused tt z }
 
 -- ---- what a right verdict says
 

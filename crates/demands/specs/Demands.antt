@@ -1,6 +1,7 @@
 -- The owner's third demand, sentence by sentence, over the definitions that the contracts of the calls cite. What choose, check and evict
 -- answer is said by document 01's number and values. Assumes nothing.
-use Rattle.std.specs.Prelude.{List, [], ◌∷◌, ◌≢◌, ◌≡◌, ℕ, ◌+◌, ◌≤◌, length, take}
+use Rattle.std.specs.Prelude.{List, [], ◌∷◌, ◌≢◌, ◌≡◌, ℕ, ◌+◌, ◌≤◌, length, take, Err}
+use Rattle.picture.specs.declared.refusals.Refusal.{Refusal}
 use Rattle.picture.specs.Picture.{Picture, picture_of}
 use Rattle.picture.specs.Faults.{picture_fault}
 use Rattle.network.specs.Words.{is_held, ServedWeight, Loss, CutCount, CutsProtected, Candidate, Admissible}
@@ -8,10 +9,8 @@ use Rattle.evidence.specs.Canonical.{evidence_of}
 use Rattle.evidence.specs.Contents.{head_in}
 use Rattle.evidence.specs.Calls.{length_for, chosen_bytes}
 use Rattle.choose.specs.Answers.{choosing, choosing_numbers}
-use Rattle.checker.specs.declared.Checking.TheVariants.{Refused as Unpassed}
 use Rattle.checker.specs.Answers.{checking, checking_numbers}
 use Rattle.acts.specs.declared.Act.TheVariants.{Evict}
-use Rattle.acts.specs.declared.Acting.TheVariants.{Refused as Undone}
 use Rattle.acts.specs.Answers.{acting, act_bytes, acting_numbers}
 
 -- ---- what the calls answer
@@ -23,12 +22,12 @@ Chooses bs buf = choosing_numbers (choosing bs buf) ≡ 0 ∷ length_for bs ∷ 
 -- check passes: it answers 0, and no refusal
 pub record Checks (bs ev : List ℕ) : Type 0 where
   pub number : checking_numbers (checking bs ev) ≡ 0 ∷ []
-  pub unrefused : (k : ℕ) → checking bs ev ≢ Unpassed k
+  pub unrefused : (e : Refusal) → checking bs ev ≢ Err e
 
 -- evicting b is done: it answers 0, and no refusal
 pub record Evicts (bs : List ℕ) (b : ℕ) : Type 0 where
   pub number : acting_numbers (acting Evict bs b) ≡ 0 ∷ []
-  pub unrefused : (k : ℕ) → acting Evict bs b ≢ Undone k
+  pub unrefused : (e : Refusal) → acting Evict bs b ≢ Err e
 
 -- ---- what the evidence says
 

@@ -16,22 +16,26 @@ const FIRST_FACTOR: u64 = 0xBF58_476D_1CE4_E5B9;
 const SECOND_FACTOR: u64 = 0x94D0_49BB_1331_11EB;
 
 // The product modulo 2^64, by halves: that of the two high ones is a multiple of 2^64.
+// Kept: the form that is asked for is the supplied wrapping add, with a wrapping product of the library's own.
+#[tactic(auto, using(crate::proofs::Products::product_halves))]
 fn wrapping_mul(a: u64, b: u64) -> u64
     ensures { result ≡ a * b % 2 ^ 64 }
 {
     let low = (a % HALF) * (b % HALF);
-    let cross = std::num::wrapping_add_u64((a / HALF) * (b % HALF), (a % HALF) * (b / HALF));
-    std::num::wrapping_add_u64(low, cross << 32)
+    let cross = ((a / HALF) * (b % HALF)).wrapping_add((a % HALF) * (b / HALF));
+    low.wrapping_add(cross << 32)
 }
 
 // The state after one draw more.
+#[tactic(auto, unfolding(crate::specs::Draws::state_after))]
 pub fn next_state(state: u64) -> u64
     ensures { result ≡ state_after state 1 }
 {
-    std::num::wrapping_add_u64(state, GROWTH)
+    state.wrapping_add(GROWTH)
 }
 
 // What a state draws.
+#[tactic(auto, unfolding(crate::specs::Draws::draw_of, crate::specs::Draws::folded))]
 pub fn draw_of(state: u64) -> u64
     ensures { result ≡ draw_of state }
 {

@@ -1,13 +1,13 @@
 -- The fields of a picture's evidence: what they take, that each value fits its width, and so how long the evidence is. Assumes nothing.
 use mathlib.Core.Path.{◌≡◌, refl, ap, ◌∙◌}
 use mathlib.Core.Bool.{Bool}
-use mathlib.Core.Logic.{⊎_elim}
 use mathlib.Core.List.{List, [], ◌∷◌, ◌++◌, map}
 use Prim.Native.Nat.{ℕ, suc, ◌+◌, ◌*◌, ◌^◌, ◌≤◌, ◌<◌}
 use native.Mathlib.Omega.{arith}
 use native.Mathlib.Nat.{div-add-mod'}
+use Rattle.std.specs.Prelude.{Option}
 use lib.ListN.{length, get_or}
-use Rattle.lists.specs.Lists.{range, sum, flat}
+use Rattle.lists.specs.Lists.{range, sum, flat, Placed}
 use Rattle.lists.proofs.Filters.{length_filter_le}
 use Rattle.lists.proofs.Ranges.{length_range}
 use Rattle.packing.specs.Packing.{Field, fields_of}
@@ -31,14 +31,13 @@ use Rattle.network.specs.declared.Cost.{Cost}
 use Rattle.network.specs.Tests.{weighed, served_weight, is_candidate, candidates}
 use Rattle.network.proofs.Named.{slots_counted}
 use Rattle.network.proofs.Weights.{mark_le, weighed_block, weights_small}
-use Rattle.network.proofs.Candidates.{candidates_below}
+use Rattle.network.proofs.Candidates.{candidate_below}
 use Rattle.network.proofs.Blocks.{read_blocks}
 use Rattle.evidence.specs.Layout.{head_widths, node_widths, section_head_widths, forest_bits, section_bits, section_at, evidence_bytes}
-use Rattle.evidence.specs.declared.Choice.{Choice}
-use Rattle.evidence.specs.Canonical.{no_cost, weighings, least, head_fields, node_fields, forest_fields, forest_of, section_fields, evidence_fields, evidence_of}
+use Rattle.evidence.specs.Canonical.{no_cost, weighings, least, verdict_of, chosen_block, chosen_loss, head_fields, node_fields, forest_fields, forest_of, section_fields, evidence_fields, evidence_of}
 use Rattle.evidence.specs.Calls.{length_for}
-use Rattle.evidence.proofs.Least.{least_right}
-use Rattle.evidence.proofs.Weighings.{weighings_length, weighing_at}
+use Rattle.evidence.proofs.Least.{Right, some, none, least_right}
+use Rattle.evidence.proofs.Weighings.{Weighing, of, weighings_length, weighing_candidate}
 use Rattle.evidence.proofs.Places.{head_whole, forest_whole, sections_whole}
 
 -- a node that no list has, for a place past its end
@@ -56,7 +55,7 @@ module _ (e : Edition) where
   unfolding span node_fields fields_of node_widths sum
   node_span x = refl
 
-  pub head_span : (c : Choice) (count served : ℕ) → span (head_fields e c count served) ≡ sum head_widths
+  pub head_span : (c : Option Cost) (count served : ℕ) → span (head_fields e c count served) ≡ sum head_widths
   unfolding span head_fields fields_of head_widths sum
   head_span c count served = refl
 
@@ -163,24 +162,20 @@ module _ (bs : List ℕ) (z : picture_fault bs ≡ 0) where
   unfolding weighed
   loss_small b = weights_small bs z _
 
-  -- of the weighing at a place
-  block_at : (i : ℕ) → i < length (weighings p) → (get_or (weighings p) i no_cost).block < blocks_max
-  block_at i h =
-      let s : i < length (candidates p) = omega (arith, weighings_length p) in
-      rw (weighing_at p i s, weighed_block p (get_or (candidates p) i 0)) (omega (arith, candidates_below p i s, blocks_small))
-
-  loss_at : (i : ℕ) → i < length (weighings p) → (get_or (weighings p) i no_cost).loss < 2 ^ 24
-  loss_at i h = rw (weighing_at p i (omega (arith, weighings_length p))) (loss_small _)
-
-  mark_at : (i : ℕ) → i < length (weighings p) → (get_or (weighings p) i no_cost).mark ≤ 1
-  mark_at i h = rw (weighing_at p i (omega (arith, weighings_length p))) (mark_le p _)
+  -- of each weighing
+  weighing_fits : {w : Cost} → Placed no_cost (weighings p) w → (w.block < blocks_max) × (w.loss < 2 ^ 24) × (w.mark ≤ 1)
+  weighing_fits o = go (weighing_candidate p o)
+    where
+      go : {w : Cost} → Weighing p w → (w.block < blocks_max) × (w.loss < 2 ^ 24) × (w.mark ≤ 1)
+      go (of b c) = (omega (arith, weighed_block p b, candidate_below bs z b c, blocks_small), loss_small b, mark_le p b)
 
   -- the choice is one of the weighings, or none
-  pub choice_fits : ((least (weighings (picture_of bs))).verdict ≤ 1) × ((least (weighings (picture_of bs))).block < blocks_max) × ((least (weighings (picture_of bs))).loss < 2 ^ 24)
-  choice_fits = ⊎_elim
-      (λ r. rw r.same (omega arith, block_at r.at r.within, loss_at r.at r.within))
-      (λ r. rw r.same (omega arith, omega arith, omega arith))
-      (least_right (weighings p))
+  pub choice_fits : let c = least (weighings (picture_of bs)) in (verdict_of c ≤ 1) × (chosen_block c < blocks_max) × (chosen_loss c < 2 ^ 24)
+  choice_fits = go (least_right (weighings p))
+    where
+      go : {c : Option Cost} → Right (weighings p) c → (verdict_of c ≤ 1) × (chosen_block c < blocks_max) × (chosen_loss c < 2 ^ 24)
+      go (some k) = let f = weighing_fits k.best.placed in (omega arith, f.0, f.1)
+      go (none m) = (omega arith, omega arith, omega arith)
 
   head_fits : Fit (head_of e p)
   unfolding head_fields head_widths fields_of Fit
@@ -191,7 +186,8 @@ module _ (bs : List ℕ) (z : picture_fault bs ≡ 0) where
   section_fits : (i : ℕ) → i < length (weighings p) → Fit (section_fields e p (get_or (weighings p) i no_cost))
   unfolding section_fields section_head_widths fields_of Fit
   section_fits i h =
-      (omega (arith, block_at i h), (loss_at i h, (omega (arith, mark_at i h), forest_fits e p slots_fit _)))
+      let f = weighing_fits (record { at = i; within = h; same = refl }) in
+      (omega (arith, f.0), (f.1, (omega (arith, f.2), forest_fits e p slots_fit _)))
 
   pub evidence_fits : Fit (evidence_fields (edition_of bs) (picture_of bs))
   unfolding evidence_fields

@@ -24,7 +24,7 @@ use Rattle.network.specs.declared.Cost.{Cost}
 use Rattle.network.specs.Tests.{weighed, served_weight, candidates}
 use Rattle.network.proofs.Weights.{weighed_block}
 use Rattle.evidence.specs.Layout.{head_widths, node_widths, section_head_widths, section_bits, section_at, forest_at}
-use Rattle.evidence.specs.Canonical.{no_cost, weighings, least, head_fields, node_fields, forest_fields, forest_of, section_fields, evidence_fields, evidence_of}
+use Rattle.evidence.specs.Canonical.{no_cost, weighings, least, verdict_of, chosen_block, chosen_loss, head_fields, node_fields, forest_fields, forest_of, section_fields, evidence_fields, evidence_of}
 use Rattle.evidence.specs.Contents.{head_in, section_in, node_at, forest_in, first_forest, section_forest}
 use Rattle.evidence.proofs.Weighings.{weighings_length, weighing_at}
 use Rattle.evidence.proofs.Fields.{no_node, head_of, nodes_of, sections_of, node_span, head_span, length_forest_of, forest_span, section_span, evidence_fits}
@@ -86,11 +86,11 @@ module _ (e : Edition) (p : Picture) (ev : List ℕ) where
 
 pub record Reads (e : Edition) (p : Picture) (ev : List ℕ) : Type 0 where
   pub edition : (head_in ev).edition ≡ e.number
-  pub verdict : (head_in ev).verdict ≡ (least (weighings p)).verdict
-  pub block : (head_in ev).block ≡ (least (weighings p)).block
+  pub verdict : (head_in ev).verdict ≡ verdict_of (least (weighings p))
+  pub block : (head_in ev).block ≡ chosen_block (least (weighings p))
   pub count : (head_in ev).count ≡ length (candidates p)
   pub served : (head_in ev).served ≡ served_weight p
-  pub loss : (head_in ev).loss ≡ (least (weighings p)).loss
+  pub loss : (head_in ev).loss ≡ chosen_loss (least (weighings p))
   pub forest : first_forest e (slot_count p) ev ≡ forest_of p (is_held p)
   pub blocks : (i : ℕ) → i < length (candidates p) → (section_in e (slot_count p) ev i).block ≡ get_or (candidates p) i 0
   pub losses : (i : ℕ) → i < length (candidates p) → (section_in e (slot_count p) ev i).loss ≡ (weighed p (get_or (candidates p) i 0)).loss
@@ -99,7 +99,9 @@ pub record Reads (e : Edition) (p : Picture) (ev : List ℕ) : Type 0 where
 
 module _ (e : Edition) (p : Picture) (ev : List ℕ) (parts : Parts e p ev) where
   head_read : (k : ℕ) → k < 6
-      → field_in ev head_widths 0 k ≡ get_or (e.number ∷ (least (weighings p)).verdict ∷ (least (weighings p)).block ∷ length (weighings p) ∷ served_weight p ∷ (least (weighings p)).loss ∷ []) k 0
+      → let c = least (weighings p) in
+      field_in ev head_widths 0 k
+      ≡ get_or (e.number ∷ verdict_of c ∷ chosen_block c ∷ length (weighings p) ∷ served_weight p ∷ chosen_loss c ∷ []) k 0
   unfolding head_fields head_widths
   head_read k s = fields_read ev head_widths _ 0 parts.head k s s
 

@@ -21,6 +21,11 @@ pub head_whole : sum head_widths ≡ 9 * 8
 unfolding head_widths sum
 head_whole = refl
 
+-- and what a section has before its forest
+pub section_head_whole : sum section_head_widths ≡ 5 * 8
+unfolding section_head_widths sum
+section_head_whole = refl
+
 -- a node does in either edition
 pub node_whole : {e : Edition} → Known e → sum (node_widths e) ≡ node_bytes e * 8
 unfolding node_bytes node_widths sum
@@ -63,21 +68,12 @@ module _ {e : Edition} (known : Known e) where
   unfolding section_bits
   section_most n i l m = mul-le-mul m (omega (arith, forest_most n l))
 
-  -- so that places are small numbers
-  pub section_small : (n i : ℕ) → n ≤ edition2.slots_max → i ≤ 255 → section_at e n i < 2 ^ 21
-  unfolding section_at head_widths section_bits section_head_widths forest_bits node_widths sum
-  section_small n i l m = omega (arith, forest_most n l, section_most n i l m)
-
   pub forest_at_lem : (n k : ℕ) → forest_at e n k ≡ sum head_widths + k * section_bits e n
   unfolding forest_at section_at
   forest_at_lem n zero = omega arith
   forest_at_lem n (suc i) = unfold section_bits in omega (arith, suc-mul i (section_bits e n))
 
-  pub forest_small : (n k : ℕ) → n ≤ edition2.slots_max → k ≤ 255 → forest_at e n k < 2 ^ 21
-  unfolding head_widths section_bits section_head_widths forest_bits node_widths sum
-  forest_small n k l m = omega (arith, forest_at_lem n k, section_most n k l m)
-
--- the same under a header
+-- so that places under a header are small numbers
 module _ (h : Header) (l : Limited h) where
   abbrev most : h.slots ≤ edition2.slots_max
   most = (few h l).slots
@@ -87,24 +83,23 @@ module _ (h : Header) (l : Limited h) where
   forest_low = omega (arith, forest_most l.known h.slots most)
 
   pub section_low : (i : ℕ) → i ≤ 255 → section_at h.edition h.slots i < 2 ^ 21
-  section_low i = section_small l.known h.slots i most
+  unfolding section_at head_widths section_bits section_head_widths forest_bits node_widths sum
+  section_low i m = omega (arith, forest_most l.known h.slots most, section_most l.known h.slots i most m)
+
+  pub sections_low : (k : ℕ) → k ≤ 255 → sum head_widths + k * section_bits h.edition h.slots < 2 ^ 21
+  unfolding section_at
+  sections_low k m = omega (arith, section_low k m)
 
   pub forest_place_low : (k : ℕ) → k ≤ 255 → forest_at h.edition h.slots k < 2 ^ 21
-  forest_place_low k = forest_small l.known h.slots k most
+  forest_place_low k m = omega (arith, forest_at_lem l.known h.slots k, sections_low k m)
 
--- the fields of section i, from where it starts
-module _ (e : Edition) (n : ℕ) (ev : List ℕ) (i : ℕ) {at : ℕ} (s : at ≡ section_at e n i) where
-  pub block_at : field_at ev at 8 ≡ (section_in e n ev i).block
-  unfolding section_in section_head_widths field_in sum
-  block_at = ap (λ (q : ℕ). field_at ev q 8) (s ∙ omega arith)
+-- what the sums of the code ask for
+pub ruleset places = (head_whole, section_head_whole, forest_low, section_low, sections_low, forest_at_lem)
 
-  pub loss_at : field_at ev (at + 8) 24 ≡ (section_in e n ev i).loss
-  unfolding section_in section_head_widths field_in sum
-  loss_at = ap (λ (q : ℕ). field_at ev (q + 8) 24) s
-
-  pub mark_at : field_at ev (at + 32) 8 ≡ (section_in e n ev i).mark
-  unfolding section_in section_head_widths field_in sum
-  mark_at = ap (λ (q : ℕ). field_at ev (q + 32) 8) s
+-- the block of section i, from where that starts
+pub block_at : (e : Edition) (n : ℕ) (ev : List ℕ) (i : ℕ) {at : ℕ} → at ≡ section_at e n i → field_at ev at 8 ≡ (section_in e n ev i).block
+unfolding section_in section_head_widths field_in sum
+block_at e n ev i s = ap (λ (q : ℕ). field_at ev q 8) (s ∙ omega arith)
 
 -- no number that the head or a section states has more than 24 bits
 module _ (ev : List ℕ) where

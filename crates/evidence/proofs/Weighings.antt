@@ -1,5 +1,5 @@
 -- The weighings of a picture are those of its candidates, and what they say is so by chains. Assumes nothing.
-use mathlib.Core.Path.{◌≡◌, sym, ap, ◌∙◌}
+use mathlib.Core.Path.{◌≡◌, sym, ap, ◌∙◌, subst}
 use mathlib.Core.Logic.{◌≢◌, by_cases}
 use mathlib.Core.List.{map}
 use Prim.Native.Nat.{ℕ, ◌≤◌, ◌<◌}
@@ -34,16 +34,14 @@ module _ (p : Picture) where
       let r = candidates_all p (below b c) c in
       record { at = r.at; within = omega (arith, r.within, weighings_length); same = weighing_at r.at r.within ∙ ap (weighed p) r.same }
 
-  -- a place has the weighing of a candidate
-  pub record Weighing (i : ℕ) : Type 0 where
-    pub block : ℕ
-    pub candidate : Candidate p block
-    pub same : get_or (weighings p) i no_cost ≡ weighed p block
+  -- and each cost in it is that of a candidate
+  pub data Weighing : Cost → Type 0 where
+    of : (b : ℕ) → Candidate p b → Weighing (weighed p b)
 
-  pub weighing_candidate : (i : ℕ) → i < length (weighings p) → Weighing i
-  weighing_candidate i h =
-      let s : i < length (candidates p) = omega (arith, weighings_length) in
-      record { block = get_or (candidates p) i 0; candidate = candidates_are p i s; same = weighing_at i s }
+  pub weighing_candidate : {w : Cost} → Placed no_cost (weighings p) w → Weighing w
+  weighing_candidate o =
+      let s : o.at < length (candidates p) = omega (arith, o.within, weighings_length) in
+      subst Weighing (sym (weighing_at o.at s) ∙ o.same) (of (get_or (candidates p) o.at 0) (candidates_are p o.at s))
 
   -- a list of something of what each candidate weighs, in their order
   pub weighings_made : {A : Type 0} (g : Cost → A) (f : ℕ → A) → ((i : ℕ) → i < length (candidates p) → f i ≡ g (weighed p (get_or (candidates p) i 0)))

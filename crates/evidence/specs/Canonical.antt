@@ -1,5 +1,5 @@
 -- The choice, and the evidence that document 01 fixes for a picture. Assumes nothing.
-use Rattle.std.specs.Prelude.{Bool, ◌&&◌, ◌||◌, cond, List, [], ◌∷◌, ◌++◌, map, ℕ, eqb, ltb, length}
+use Rattle.std.specs.Prelude.{Bool, ◌&&◌, cond, Option, Some, None, List, [], ◌∷◌, ◌++◌, map, ℕ, eqb, ltb, length}
 use Rattle.lists.specs.Lists.{flat}
 use Rattle.packing.specs.Packing.{Field, fields_of, packed}
 use Rattle.graph.specs.declared.Node.{Node}
@@ -10,7 +10,6 @@ use Rattle.picture.specs.Picture.{Picture, picture_of}
 use Rattle.network.specs.Words.{slot_count, is_held, held_without, joins}
 use Rattle.network.specs.declared.Cost.{Cost}
 use Rattle.network.specs.Tests.{weighed, served_weight, candidates}
-use Rattle.evidence.specs.declared.Choice.{Choice}
 use Rattle.evidence.specs.declared.Stated.{Stated}
 use Rattle.evidence.specs.Layout.{head_widths, node_widths, section_head_widths}
 
@@ -26,39 +25,47 @@ stated_of w = record { block = w.block; loss = w.loss; mark = w.mark }
 unfoldable pub weighings : Picture → List Cost
 weighings p = map (weighed p) (candidates p)
 
--- nothing is chosen: "none" is verdict 0 with block 0 and loss 0
-abbrev pub no_choice : Choice
-no_choice = record { verdict = 0; block = 0; loss = 0; cuts = 0 }
-
 -- the order of choice (02, C-12: "by weight, then cabs cut, then block number"): a candidate loses less or, where it loses as much, it cuts
 -- fewer endpoints. The candidates come in rising order, so that of equal ones the lowest stays
-unfoldable pub is_less : Cost → Choice → Bool
+unfoldable pub is_less : Cost → Cost → Bool
 is_less w c = cond (eqb w.loss c.loss) (ltb w.cuts c.cuts) (ltb w.loss c.loss)
 
 -- the choice with one candidate more: it is taken where it cuts no protected endpoint, and none was chosen before or it comes before that one
-unfoldable pub bettered : Choice → Cost → Choice
-bettered c w =
-    let this : Choice = record { verdict = 1; block = w.block; loss = w.loss; cuts = w.cuts } in
-    cond (eqb w.mark 0 && (eqb c.verdict 0 || is_less w c)) this c
+unfoldable pub bettered : Option Cost → Cost → Option Cost
+bettered None w = cond (eqb w.mark 0) (Some w) None
+bettered (Some c) w = cond (eqb w.mark 0 && is_less w c) (Some w) (Some c)
 
 -- the choice after each candidate of a list
-unfoldable pub bettering : Choice → List Cost → Choice
+unfoldable pub bettering : Option Cost → List Cost → Option Cost
 bettering c [] = c
 bettering c (w ∷ ws) = bettering (bettered c w) ws
 
 -- the admissible candidate of least loss, of these one that cuts fewest endpoints, the lowest number among equals, or none
-unfoldable pub least : List Cost → Choice
-least ws = bettering no_choice ws
+unfoldable pub least : List Cost → Option Cost
+least ws = bettering None ws
 
 -- the choice of a picture, among its candidates
-unfoldable pub choice : Picture → Choice
+unfoldable pub choice : Picture → Option Cost
 choice p = least (weighings p)
+
+-- what the head states of a choice: verdict 1 with its block and loss, or "none", which is verdict 0 with block 0 and loss 0
+abbrev pub verdict_of : Option Cost → ℕ
+verdict_of None = 0
+verdict_of (Some c) = 1
+
+abbrev pub chosen_block : Option Cost → ℕ
+chosen_block None = 0
+chosen_block (Some c) = c.block
+
+abbrev pub chosen_loss : Option Cost → ℕ
+chosen_loss None = 0
+chosen_loss (Some c) = c.loss
 
 -- ---- the fields of the evidence, in their order
 
 -- the head: edition, verdict, block, candidate count, served weight, loss
-unfoldable pub head_fields : Edition → Choice → ℕ → ℕ → List Field
-head_fields e c count served = fields_of head_widths (e.number ∷ c.verdict ∷ c.block ∷ count ∷ served ∷ c.loss ∷ [])
+unfoldable pub head_fields : Edition → Option Cost → ℕ → ℕ → List Field
+head_fields e c count served = fields_of head_widths (e.number ∷ verdict_of c ∷ chosen_block c ∷ count ∷ served ∷ chosen_loss c ∷ [])
 
 -- a slot's parent and depth, and those of all slots
 unfoldable pub node_fields : Edition → Node → List Field

@@ -1,5 +1,5 @@
 -- What a check finds in evidence from anywhere: the number of the first fault, in the order of document 01. Assumes nothing.
-use Rattle.std.specs.Prelude.{Bool, not, ◌&&◌, ◌||◌, cond, List, [], ◌∷◌, map, ℕ, ◌+◌, eqb, leb, length, get_or}
+use Rattle.std.specs.Prelude.{Bool, not, ◌&&◌, ◌||◌, cond, Option, Some, None, List, [], ◌∷◌, map, ℕ, ◌+◌, eqb, leb, length, get_or}
 use Rattle.lists.specs.Lists.{range, on, first, all, any}
 use Rattle.graph.specs.declared.Node.{Node}
 use Rattle.graph.specs.Kept.{node_of}
@@ -12,7 +12,7 @@ use Rattle.network.specs.Words.{slot_count, is_held, held_without, joins}
 use Rattle.network.specs.declared.Cost.{Cost}
 use Rattle.network.specs.Tests.{served_weight, candidates}
 use Rattle.evidence.specs.Layout.{evidence_bytes}
-use Rattle.evidence.specs.declared.Choice.{Choice}
+use Rattle.evidence.specs.declared.Head.{Head}
 use Rattle.evidence.specs.Contents.{head_in, section_in, first_forest, section_forest}
 use Rattle.evidence.specs.Canonical.{no_cost, weighings, least}
 
@@ -71,16 +71,17 @@ section_fault e p ev ws i =
     ∷ [])
 
 -- a weighing is of this block, without a mark, and loses and cuts as much as the choice
-unfoldable pub is_named : ℕ → Choice → Cost → Bool
+unfoldable pub is_named : ℕ → Cost → Cost → Bool
 is_named block c w = eqb w.block block && (eqb w.mark 0 && (eqb w.loss c.loss && eqb w.cuts c.cuts))
 
--- 16: the verdict, its block and its loss are as the sections imply. Any admissible candidate will do that loses least and of those cuts fewest
+-- the head states this choice of the weighings. Any admissible candidate will do that loses least and of those cuts fewest
+unfoldable pub head_states : Head → List Cost → Option Cost → Bool
+head_states h ws None = eqb h.verdict 0 && (eqb h.loss 0 && eqb h.block 0)
+head_states h ws (Some c) = eqb h.verdict 1 && (eqb h.loss c.loss && any (is_named h.block c) ws)
+
+-- 16: the verdict, its block and its loss are as the sections imply
 unfoldable pub verdict_right : List ℕ → List Cost → Bool
-verdict_right ev ws =
-    let c : Choice = least ws in
-    eqb (head_in ev).verdict c.verdict
-    && (eqb (head_in ev).loss c.loss
-    && cond (eqb c.verdict 0) (eqb (head_in ev).block 0) (any (is_named (head_in ev).block c) ws))
+verdict_right ev ws = head_states (head_in ev) ws (least ws)
 
 -- the number of the first fault, or 0 where the evidence passes for the picture
 unfoldable pub check_fault : List ℕ → List ℕ → ℕ

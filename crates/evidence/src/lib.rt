@@ -61,6 +61,7 @@ pub const EVIDENCE_MAX: usize = HEAD_BYTES
     + BLOCKS_MAX * (SECTION_HEAD_BYTES + LONGEST_FOREST);
 
 // What the head says.
+// Kept: the verdict is a number as it is read, since evidence from anywhere may have one over 1, and the check names that fault.
 #[derive(Clone, Copy)]
 pub struct Head {
     pub edition: usize,
@@ -72,20 +73,12 @@ pub struct Head {
 }
 
 // What a section states before its forest.
+// Kept: the mark is a number as it is read, since evidence from anywhere may have one over 1, and the check names that fault.
 #[derive(Clone, Copy)]
 pub struct Stated {
     pub block: usize,
     pub loss: usize,
     pub mark: usize,
-}
-
-// A choice: verdict 1 with a block, its loss and how many endpoints it cuts, or all 0.
-#[derive(Clone, Copy)]
-pub struct Choice {
-    pub verdict: usize,
-    pub block: usize,
-    pub loss: usize,
-    pub cuts: usize,
 }
 
 // A part of the evidence, in bytes.
@@ -96,6 +89,7 @@ pub struct Part {
 }
 
 // The bits of a node of a forest.
+#[tactic(auto, unfolding(crate::specs::Layout::node_widths, lists::specs::Lists::sum))]
 pub fn node_bits(e: Edition) -> usize
     requires { Known e }
     ensures { result ≡ sum (node_widths e) }
@@ -104,6 +98,7 @@ pub fn node_bits(e: Edition) -> usize
 }
 
 // The bits of a forest.
+#[tactic(auto, using(crate::proofs::Places::places), unfolding(crate::specs::Layout::forest_bits))]
 pub fn forest_bits(h: Header) -> usize
     requires { Limited h }
     ensures { result ≡ forest_bits h.edition h.slots }
@@ -112,6 +107,7 @@ pub fn forest_bits(h: Header) -> usize
 }
 
 // The bits of a section.
+#[tactic(auto, using(crate::proofs::Places::places), unfolding(crate::specs::Layout::section_bits))]
 pub fn section_bits(h: Header) -> usize
     requires { Limited h }
     ensures { result ≡ section_bits h.edition h.slots }
@@ -120,6 +116,7 @@ pub fn section_bits(h: Header) -> usize
 }
 
 // The same in bytes: a section has whole ones.
+#[tactic(auto, unfolding(crate::specs::Layout::section_bytes))]
 pub fn section_bytes(h: Header) -> usize
     requires { Limited h }
     ensures { result ≡ section_bytes h.edition h.slots }
@@ -128,6 +125,7 @@ pub fn section_bytes(h: Header) -> usize
 }
 
 // Where section i starts, in bits.
+#[tactic(auto, using(crate::proofs::Places::places), unfolding(crate::specs::Layout::section_at))]
 pub fn section_at(h: Header, i: usize) -> usize
     requires { Limited h × (i ≤ 255) }
     ensures { result ≡ section_at h.edition h.slots i }
@@ -136,6 +134,7 @@ pub fn section_at(h: Header, i: usize) -> usize
 }
 
 // Where forest k starts, in bits: forest 0 is the first one, and forest i + 1 that of section i.
+#[tactic(auto, using(crate::proofs::Places::places))]
 pub fn forest_at(h: Header, k: usize) -> usize
     requires { Limited h × (k ≤ 255) }
     ensures { result ≡ forest_at h.edition h.slots k }
@@ -144,6 +143,7 @@ pub fn forest_at(h: Header, k: usize) -> usize
 }
 
 // The length of evidence in bytes, for so many candidates.
+#[tactic(auto, unfolding(crate::specs::Layout::evidence_bytes))]
 pub fn evidence_bytes(h: Header, count: usize) -> usize
     requires { Limited h × (count ≤ 255) }
     ensures { result ≡ evidence_bytes h.edition h.slots count }
@@ -166,6 +166,7 @@ pub fn head_of(ev: &[u8]) -> Head
 }
 
 // What section i of evidence under a header states.
+#[tactic(auto, using(crate::proofs::Places::places))]
 pub fn section_of(ev: &[u8], h: Header, i: usize) -> Stated
     requires { Limited h × (i ≤ 255) }
     ensures { result ≡ section_in h.edition h.slots ev.now i }
@@ -178,34 +179,22 @@ pub fn section_of(ev: &[u8], h: Header, i: usize) -> Stated
     }
 }
 
-// Whether a candidate comes before the choice so far: it loses less or, where it loses as much, it cuts fewer endpoints.
-fn is_less(w: Cost, c: Choice) -> bool
+// Whether a candidate comes before another: it loses less or, where it loses as much, it cuts fewer endpoints.
+#[tactic(auto, unfolding(crate::specs::Canonical::is_less))]
+fn is_less(w: Cost, c: Cost) -> bool
     ensures { result ≡ is_less w c }
 {
-    if w.loss == c.loss {
-        return w.cuts < c.cuts;
-    }
-    w.loss < c.loss
+    (w.loss, w.cuts) < (c.loss, c.cuts)
 }
 
 // The choice with one candidate more: it is taken where it cuts no protected endpoint, and none was chosen before or it comes before that one.
-pub fn better(c: Choice, w: Cost) -> Choice
-    ensures { result ≡ bettered c w }
+#[tactic(auto, unfolding(crate::specs::Canonical::bettered))]
+pub fn better(best: Option<Cost>, w: Cost) -> Option<Cost>
+    ensures { result ≡ bettered best w }
 {
-    if w.mark != 0 {
-        return c;
+    match best {
+        _ if w.mark != 0 => best,
+        Some(c) if !is_less(w, c) => best,
+        _ => Some(w),
     }
-    let this = Choice {
-        verdict: 1,
-        block: w.block,
-        loss: w.loss,
-        cuts: w.cuts,
-    };
-    if c.verdict == 0 {
-        return this;
-    }
-    if is_less(w, c) {
-        return this;
-    }
-    c
 }

@@ -1,129 +1,95 @@
 // Prints a picture that draws from a seed fill: the seed and the sizes are the arguments.
 #![tactic(auto)]
 
-ghost use Rattle.std.specs.Prelude.{◌≡◌, ◌-◌, ◌^◌, min};
+ghost use Rattle.std.specs.Prelude.{◌≡◌, ◌+◌, ◌-◌, ◌*◌, ◌^◌, cond, min};
 ghost use Rattle.generate.specs.Arguments.{goes_on, given};
 
 use picture::PICTURE_MAX;
 use std::env::{Env, FillError};
 use std::io;
-use write::Writing;
 
 // The seed, β, the block count, D, L and S.
 const ARGUMENTS: usize = 6;
 
-// What an argument says.
-#[derive(Clone, Copy)]
-pub enum Argument {
-    Number(u64),
-    Other,
-}
-
-// Whether a byte is a digit that can follow a number: the number that they make has 64 bits.
-#[tactic(auto, using(crate::proofs::Arguments::below_digits, crate::proofs::Arguments::above_digits, crate::proofs::Arguments::digit_fits))]
-fn goes_on(n: u64, c: u8) -> bool
-    ensures { result ≡ goes_on n c }
+// The number with one more digit behind it, if the byte is a digit and the number has 64 bits.
+#[tactic(auto, unfolding(crate::specs::Arguments::goes_on))]
+fn with_digit(n: u64, c: u8) -> Option<u64>
+    ensures { result ≡ cond (goes_on n c) (Some (n * 10 + (c - 48))) None }
 {
-    if c < b'0' {
-        return false;
+    match c {
+        b'0'..=b'9' => n.checked_mul(10)?.checked_add(u64::from(c - b'0')),
+        _ => None,
     }
-    if b'9' < c {
-        return false;
-    }
-    n <= (u64::MAX - (c - b'0') as u64) / 10
 }
 
 // The number that an argument says in decimal, if it says one of 64 bits.
-fn number(text: &[u8]) -> Argument
+fn number(text: &[u8]) -> Option<u64>
     ensures { result ≡ given text.now }
 {
-    if text.len() == 0 {
-        return Argument::Other;
+    if text.is_empty() {
+        return None;
     }
-    let mut n: u64 = 0;
-    let mut i: usize = 0;
-    while i < text.len() {
-        let c = text[i];
-        let more = goes_on(n, c);
-        if !more {
-            return Argument::Other;
-        }
-        n = n * 10 + (c - b'0') as u64;
-        i += 1;
+    let mut n = 0;
+    for c in text {
+        n = with_digit(n, *c)?;
     }
-    Argument::Number(n)
+    Some(n)
 }
 
 // The number that argument i says. One that is missing, or longer than any number, says none.
-fn nth_number(rt: &impl Env, i: usize) -> Argument {
+fn nth_number(rt: &impl Env, i: usize) -> Option<u64> {
     let mut text = [0u8; 64];
-    match rt.arg(i, &mut text) {
-        Ok(k) => number(&text[..k]),
-        Err(_) => Argument::Other,
-    }
+    let k = rt.arg(i, &mut text).ok()?;
+    number(&text[..k])
 }
 
 // Whether there is an argument i.
 fn is_given(rt: &impl Env, i: usize) -> bool {
-    let mut text = [0u8; 1];
-    match rt.arg(i, &mut text) {
-        Err(FillError::NotPresent) => false,
-        _ => true,
-    }
+    !matches!(rt.arg(i, &mut [0u8; 1]), Err(FillError::NotPresent))
 }
 
 // The numbers of the arguments, if there are as many and each says one.
-fn read_numbers(rt: &impl Env, numbers: &mut [u64; ARGUMENTS]) -> bool {
+fn read_numbers(rt: &impl Env) -> Option<[u64; ARGUMENTS]> {
     if is_given(rt, ARGUMENTS + 1) {
-        return false;
+        return None;
     }
-    let mut i: usize = 0;
-    while i < ARGUMENTS {
-        match nth_number(rt, i + 1) {
-            Argument::Number(n) => {
-                numbers[i] = n;
-            }
-            Argument::Other => {
-                return false;
-            }
-        }
-        i += 1;
+    let mut numbers = [0; ARGUMENTS];
+    for (i, number) in numbers.iter_mut().enumerate() {
+        *number = nth_number(rt, i + 1)?;
     }
-    true
+    Some(numbers)
 }
 
 // A size in 32 bits: one that has more is too large for a picture, and so is the largest.
 fn size(n: u64) -> u32
     ensures { result ≡ min n (2 ^ 32 - 1) }
 {
-    if n < 0xFFFF_FFFF {
-        return n as u32;
-    }
-    0xFFFF_FFFF
+    u32::try_from(n).unwrap_or(u32::MAX)
 }
 
 // Writes the picture, or the number of the refusal to standard error.
-fn print(rt: &(impl Print + Eprint), numbers: &[u64; ARGUMENTS]) -> io::Result<()> {
+fn print(rt: &(impl Print + Eprint), numbers: [u64; ARGUMENTS]) -> io::Result<()> {
+    let [seed, block_size, blocks, endpoints, links, service_links] = numbers;
     let mut picture = [0u8; PICTURE_MAX];
     match generator::generate(
-        numbers[0],
-        size(numbers[1]),
-        size(numbers[2]),
-        size(numbers[3]),
-        size(numbers[4]),
-        size(numbers[5]),
+        seed,
+        size(block_size),
+        size(blocks),
+        size(endpoints),
+        size(links),
+        size(service_links),
         &mut picture,
     ) {
-        Writing::Length(length) => rt.write_all(&picture[..length]),
-        Writing::Refused(number) => eprintln!(rt; "refused {number}"),
+        Ok(length) => rt.write_all(&picture[..length]),
+        Err(refusal) => eprintln!(rt; "{refusal}"),
     }
 }
 
 fn main(rt: HostRuntime) -> io::Result<()> {
-    let mut numbers = [0u64; ARGUMENTS];
-    if read_numbers(&rt, &mut numbers) {
-        print(&rt, &numbers)
-    } else {
-        eprintln!(rt; "usage: generate SEED BLOCK_SIZE BLOCKS ENDPOINTS LINKS SERVICE_LINKS")
+    match read_numbers(&rt) {
+        Some(numbers) => print(&rt, numbers),
+        None => eprintln!(rt;
+            "usage: generate SEED BLOCK_SIZE BLOCKS ENDPOINTS LINKS SERVICE_LINKS"
+        ),
     }
 }

@@ -4,7 +4,7 @@ use mathlib.Core.Logic.{by_cases}
 use mathlib.Core.List.{List, [], ◌∷◌, map, map-map}
 use Prim.Native.Nat.{ℕ, zero, suc, ◌+◌, ◌*◌, ◌%◌, ◌^◌, ◌≤◌, ◌<◌}
 use native.Mathlib.Omega.{arith}
-use native.Mathlib.Nat.{add-zero, mod-lt}
+use native.Mathlib.Nat.{add-zero, zero-add, mod-lt}
 use native.Mathlib.Decide.{ℕ_discrete}
 use lib.Dec.{eqb}
 use lib.ListN.{length, get_or, length-map}
@@ -37,10 +37,13 @@ module _ {A : Type 0} (f : ℕ → ℕ → A) (seed j k : ℕ) where
   unfolding drawn_rows
   length_drawn = length-map (range 0 k) _ ∙ length_range 0 k
 
+  pub drawn_at : (d : A) (i : ℕ) → i < k → get_or (drawn_rows f seed j k) i d ≡ f (draw seed (j + i * 2 + 1)) (draw seed (j + i * 2 + 2))
+  unfolding drawn_rows
+  drawn_at d i l = rw (get_d_map_range _ d 0 k i l, zero-add i)
+
   -- a property that each row has
   pub drawn_each : (P : A → Type 0) (d : A) → ((x y : ℕ) → P (f x y)) → (i : ℕ) → i < length (drawn_rows f seed j k) → P (get_or (drawn_rows f seed j k) i d)
-  unfolding drawn_rows
-  drawn_each P d each i s = subst P (sym (get_d_map_range _ d 0 k i (omega (arith, length_drawn)))) (each _ _)
+  drawn_each P d each i s = subst P (sym (drawn_at d i (omega (arith, length_drawn)))) (each _ _)
 
 -- rows from the state after j draws are those from draw j + 1 on, told by their fields
 pub drawn_fields : {A : Type 0} (g : A → List Field) (f : ℕ → ℕ → A) (a b : DrawnField) → ((x y : ℕ) → row_fields a b x y ≡ g (f x y)) → (seed j k : ℕ)

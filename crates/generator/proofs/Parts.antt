@@ -2,7 +2,7 @@
 use mathlib.Core.Path.{◌≡◌, refl, sym, ap, ◌∙◌, subst}
 use mathlib.Core.Logic.{by_cases}
 use mathlib.Core.List.{List, map}
-use Prim.Native.Nat.{ℕ, ◌+◌, ◌*◌, ◌%◌, ◌^◌, ◌≤◌, ◌<◌}
+use Prim.Native.Nat.{ℕ, ◌+◌, ◌*◌, ◌≤◌}
 use native.Mathlib.Omega.{arith}
 use native.Mathlib.Decide.{ℕ_discrete}
 use lib.ListN.{length}
@@ -10,12 +10,13 @@ use Rattle.lists.specs.Lists.{first, sum, flat}
 use Rattle.packing.specs.Packing.{Field}
 use Rattle.packing.specs.Holding.{Fit}
 use Rattle.picture.specs.declared.Header.{Header}
-use Rattle.picture.specs.Layout.{slot_widths, endpoint_widths, link_widths, service_link_widths, slots_at, endpoints_at, links_at, service_links_at, end_at}
+use Rattle.picture.specs.Layout.{slot_widths, endpoint_widths, link_widths, service_link_widths, slots_at, endpoints_at, links_at, service_links_at}
+use Rattle.picture.specs.Layout.{end_at}
 use Rattle.picture.specs.Inner.{Known, Limited}
 use Rattle.write.specs.Fields.{header_fields, link_fields}
-use Rattle.write.specs.Inner.{Follows}
+use Rattle.write.specs.Tails.{Follows}
 use Rattle.write.proofs.Fields.{header_fits}
-use Rattle.write.proofs.Making.{Makes, part_room, follows_at}
+use Rattle.write.proofs.Making.{Makes, part_room}
 use Rattle.draws.specs.Draws.{state_after}
 use Rattle.draws.proofs.States.{state_later}
 use Rattle.generator.specs.declared.DrawnField.{DrawnField}
@@ -44,42 +45,29 @@ module _ {h : Header} {buf : List ℕ} (r : Ready h buf) where
 
 -- ---- one part after the other
 
--- the picture is filled up to a place by so many draws, in a buffer that is as long
-pub record Stage (seed j place : ℕ) (buf mid : List ℕ) (g : Progress) : Type 0 where
-  pub long : length mid ≡ length buf
-  pub at : g.at ≡ place
-  pub few : g.held < 2 ^ (place % 8)
+-- a picture is filled up to a place, by so many draws
+pub record Stage (seed j place : ℕ) (g : Progress) : Type 0 where
+  pub at : g.tail.at ≡ place
   pub state : g.state ≡ state_after seed j
 
-module _ {seed j place : ℕ} {buf mid : List ℕ} {g : Progress} (s : Stage seed j place buf mid g) where
-  -- rows that end before the picture does have their room
-  pub stage_fits : {h : Header} {a b : DrawnField} {count : ℕ} → Ready h buf → a.bits + b.bits ≤ 32 → (1 ≤ count → Roomy a) → (1 ≤ count → Roomy b)
-      → place + count * (a.bits + b.bits) ≤ end_at h → RowsFit g a b count mid
-  stage_fits r wide first second within =
-      record {
-        wide = wide;
-        first = first;
-        second = second;
-        room = part_room (ready_makes r seed) s.long (rw s.at within) (rw s.at s.few);
-      }
+module _ {seed j place : ℕ} {g : Progress} (s : Stage seed j place g) where
+  -- rows that end before the picture does have their room in a buffer that is as long
+  pub stage_fits : {h : Header} {buf mid : List ℕ} {a b : DrawnField} {count : ℕ} → Ready h buf → length mid ≡ length buf → a.bits + b.bits ≤ 32
+      → (1 ≤ count → Roomy a) → (1 ≤ count → Roomy b) → place + count * (a.bits + b.bits) ≤ end_at h → RowsFit g a b count mid
+  stage_fits r same wide first second within =
+      record { wide = wide; first = first; second = second; room = part_room (ready_makes r seed) same (omega (arith, s.at, within)) }
 
-  module _ {a b : DrawnField} {count : ℕ} {new : List ℕ} {g' : Progress} (d : RowsDrawn g a b count mid new g') where
-    pub stage_next : {j' place' : ℕ} → j + count * 2 ≡ j' → place + count * (a.bits + b.bits) ≡ place' → Stage seed j' place' buf new g'
-    stage_next draws to =
-        let at : g'.at ≡ _ = d.at ∙ ap (λ (n : ℕ). n + count * (a.bits + b.bits)) s.at ∙ to in
-        record {
-          long = d.follows.long ∙ s.long;
-          at = at;
-          few = rw at at d.follows.small;
-          state = d.state ∙ ap (λ (z : ℕ). state_after z (count * 2)) s.state ∙ state_later seed j (count * 2) ∙ ap (state_after seed) draws;
-        }
-
+  module _ {a b : DrawnField} {count : ℕ} {mid new : List ℕ} {g' : Progress} (d : RowsDrawn g a b count mid new g') where
     -- told by the rows of the list
-    pub stage_follows : {A : Type 0} {place' : ℕ} (w : A → List Field) (f : ℕ → ℕ → A) → ((x y : ℕ) → row_fields a b x y ≡ w (f x y))
-        → place + count * (a.bits + b.bits) ≡ place' → Follows mid place g.held (flat (map w (drawn_rows f seed j count))) new place' g'.held
-    stage_follows w f e to =
-        let rows = ap (λ (z : ℕ). drawn_rows (row_fields a b) z 0 count) s.state ∙ drawn_fields w f a b e seed j count in
-        follows_at (rw rows at d.follows) s.at (d.at ∙ ap (λ (n : ℕ). n + count * (a.bits + b.bits)) s.at ∙ to)
+    pub stage_follows : {A : Type 0} (w : A → List Field) (f : ℕ → ℕ → A) → ((x y : ℕ) → row_fields a b x y ≡ w (f x y))
+        → Follows mid g.tail (flat (map w (drawn_rows f seed j count))) new g'.tail
+    stage_follows w f e =
+        rw (ap (λ (z : ℕ). drawn_rows (row_fields a b) z 0 count) s.state ∙ drawn_fields w f a b e seed j count) at d.follows
+
+    pub stage_next : {j' place' : ℕ} → j + count * 2 ≡ j' → g'.tail.at ≡ place' → Stage seed j' place' g'
+    stage_next draws at =
+        let later = d.state ∙ ap (λ (z : ℕ). state_after z (count * 2)) s.state ∙ state_later seed j (count * 2) in
+        record { at = at; state = later ∙ ap (state_after seed) draws }
 
 -- ---- the four lists
 

@@ -1,21 +1,22 @@
 -- Rows of fields, filled by one draw after the other. Assumes nothing.
-use mathlib.Core.Path.{◌≡◌}
-use mathlib.Core.List.{List}
-use Prim.Native.Nat.{ℕ, ◌+◌, ◌*◌, ◌%◌, ◌^◌, ◌≤◌, ◌<◌}
+use mathlib.Core.Path.{◌≡◌, ap, ◌∙◌}
+use mathlib.Core.List.{List, []}
+use Prim.Native.Nat.{ℕ, ◌+◌, ◌*◌, ◌^◌, ◌≤◌, ◌<◌}
 use native.Mathlib.Omega.{arith}
-use native.Mathlib.Nat.{mod-lt}
-use Rattle.lists.specs.Lists.{range, flat}
-use Rattle.lists.proofs.Ranges.{length_range}
-use Rattle.lists.proofs.Picks.{range_at}
+use native.Mathlib.Nat.{zero-add, mod-lt}
+use lib.ListN.{take}
+use Rattle.lists.specs.Lists.{flat}
 use Rattle.packing.specs.Packing.{Field, fields_of}
 use Rattle.packing.specs.Holding.{span}
-use Rattle.write.specs.Inner.{Follows}
-use Rattle.write.proofs.Rows.{Rows, rows_begun, rows_next, rows_ended}
-use Rattle.draws.specs.Draws.{state_after, draw_of, draw}
-use Rattle.draws.proofs.States.{state_begun}
+use Rattle.write.specs.Tails.{Follows}
+use Rattle.write.proofs.Tails.{rows_begun, rows_next, rows_ended}
+use Rattle.draws.specs.Draws.{state_after, draw}
+use Rattle.draws.proofs.States.{state_begun, state_later, draw_later}
 use Rattle.generator.specs.declared.DrawnField.{DrawnField}
+use Rattle.generator.specs.declared.Progress.{Progress}
 use Rattle.generator.specs.Generated.{drawn_rows}
-use Rattle.generator.specs.Inner.{taken, row_fields, Roomy}
+use Rattle.generator.specs.Inner.{taken, row_fields, Roomy, RowDrawn, RowsDrawn}
+use Rattle.generator.proofs.Lists.{length_drawn, drawn_at}
 
 -- ---- what a field takes
 
@@ -25,40 +26,38 @@ taken_small {f} r x = omega (arith, mod-lt x r.some, r.most)
 
 -- ---- rows
 
--- the fields of row i, from a state on
-abbrev pub row : DrawnField → DrawnField → ℕ → ℕ → List Field
-row a b z i = row_fields a b (draw z (0 + i * 2 + 1)) (draw z (0 + i * 2 + 2))
-
-pub row_wide : (a b : DrawnField) (z i : ℕ) → span (row a b z i) ≡ a.bits + b.bits
+pub row_width : (a b : DrawnField) (x y : ℕ) → span (row_fields a b x y) ≡ a.bits + b.bits
 unfolding span row_fields fields_of
-row_wide a b z i = omega arith
+row_width a b x y = omega arith
 
--- the first i rows are filled, and the state has grown with each draw
-pub record Filling (a b : DrawnField) (count at held z : ℕ) (old : List ℕ) (i : ℕ) (new : List ℕ) (rest s : ℕ) : Type 0 where
-  pub rows : Rows (row a b z) (a.bits + b.bits) (range 0 count) count at held old i new rest
-  pub state : s ≡ state_after z (i * 2)
+-- the first i of the rows that draws fill from a state on, and the state that they leave
+pub record Filling (p : Progress) (a b : DrawnField) (count : ℕ) (old : List ℕ) (i : ℕ) (new : List ℕ) (r : Progress) : Type 0 where
+  pub place : r.tail.at ≡ p.tail.at + i * (a.bits + b.bits)
+  pub state : r.state ≡ state_after p.state (i * 2)
+  pub rows : Follows old p.tail (flat (take i (drawn_rows (row_fields a b) p.state 0 count))) new r.tail
 
-module _ {a b : DrawnField} {count at held z : ℕ} {old : List ℕ} where
-  pub filling_begun : z < 2 ^ 64 → held < 2 ^ (at % 8) → Filling a b count at held z old 0 old held z
-  filling_begun l few = record { rows = rows_begun 0 (row a b z) _ (row_wide a b z) (length_range 0 count) few; state = state_begun z l }
+-- those rows
+abbrev rows_from : Progress → DrawnField → DrawnField → ℕ → List (List Field)
+rows_from p a b count = drawn_rows (row_fields a b) p.state 0 count
+
+module _ {p : Progress} {a b : DrawnField} {count : ℕ} {old : List ℕ} where
+  pub filling_begun : p.state < 2 ^ 64 → Filling p a b count old 0 old p
+  filling_begun l = record { place = omega arith; state = state_begun p.state l; rows = rows_begun old p.tail (rows_from p a b count) }
 
   -- two draws more, and a row
-  pub filling_next : {i rest s one two more : ℕ} {mid new : List ℕ} → Filling a b count at held z old i mid rest s → i < count
-      → one ≡ state_after s 1 → two ≡ state_after one 1
-      → Follows mid (at + i * (a.bits + b.bits)) rest (row_fields a b (draw_of one) (draw_of two)) new (at + i * (a.bits + b.bits) + (a.bits + b.bits)) more
-      → Filling a b count at held z old (i + 1) new more two
-  unfolding draw state_after
-  filling_next {i} {s = s} {one = one} {two = two} f l m n w =
-      let first : one ≡ state_after z (0 + i * 2 + 1) = omega (arith, m, f.state) in
-      let second : two ≡ state_after z (0 + i * 2 + 2) = omega (arith, m, n, f.state) in
+  pub filling_next : {i : ℕ} {mid new : List ℕ} {r s : Progress} → Filling p a b count old i mid r → i < count
+      → RowDrawn r a b mid new s → Filling p a b count old (i + 1) new s
+  filling_next {i} {r = r} f l d =
+      let later : (n : ℕ) → draw r.state n ≡ draw p.state (0 + i * 2 + n) = λ n. rw (f.state, draw_later p.state (i * 2) n, zero-add (i * 2)) in
+      let here = drawn_at (row_fields a b) p.state 0 count [] i l in
       record {
-        rows = rows_next 0 (row a b z) _ (row_wide a b z) f.rows l (rw (first, second, range_at count i l)) w;
-        state = omega (arith, second);
+        place = omega (arith, f.place, d.follows.end, row_width a b (draw r.state 1) (draw r.state 2));
+        state = d.state ∙ rw (f.state, state_later p.state (i * 2) 2) (ap (state_after p.state) (omega arith));
+        rows = rows_next (rows_from p a b count) f.rows (rw length_drawn l) (rw (here, later 1, later 2)) d.follows;
       }
 
-  pub filling_ended : {i rest s : ℕ} {new : List ℕ} → Filling a b count at held z old i new rest s → count ≤ i
-      → (s ≡ state_after z (count * 2)) × Follows old at held (flat (drawn_rows (row_fields a b) z 0 count)) new (at + count * (a.bits + b.bits)) rest
-  unfolding drawn_rows
-  filling_ended {i} f l =
-      let all : i ≡ count = omega (arith, f.rows.within) in
-      (rw (← all) f.state, rows_ended 0 (row a b z) _ (row_wide a b z) f.rows l)
+  pub filling_ended : {i : ℕ} {new : List ℕ} {r : Progress} → Filling p a b count old i new r → count ≤ i → i ≤ count
+      → RowsDrawn p a b count old new r
+  filling_ended {i} f l m =
+      let all : i ≡ count = omega arith in
+      record { state = rw all at f.state; follows = rows_ended (rows_from p a b count) f.rows (rw length_drawn l) }

@@ -1,19 +1,18 @@
 // Pictures filled by draws from a seed, in a lent buffer: the same picture on every machine.
 #![tactic(auto)]
 
-ghost use Rattle.std.specs.Prelude.{◌≡◌, ◌+◌, ◌*◌, ◌%◌, ◌≤◌, ◌++◌, drop};
+ghost use Rattle.std.specs.Prelude.{◌≡◌, ◌≤◌, ◌++◌, drop};
 ghost use Rattle.lists.specs.Lists.{first};
+ghost use Rattle.picture.specs.Refusals.{fault_of};
 ghost use Rattle.picture.specs.Layout.{size_of};
-ghost use Rattle.write.specs.Inner.{Follows};
 ghost use Rattle.draws.specs.Draws.{draw_of};
 ghost use Rattle.generator.specs.Generated.{asked_header};
 ghost use Rattle.generator.specs.Faults.{asked_faults};
 ghost use Rattle.generator.specs.Answers.{generated_picture, Generates};
-ghost use Rattle.generator.specs.Inner.{taken, row_fields, Roomy, RowFits, RowsFit, RowsDrawn, Ready};
+ghost use Rattle.generator.specs.Inner.{taken, Roomy, RowFits, RowsFit, RowDrawn, RowsDrawn, Ready};
 
-use picture::refusals::{BLOCKS, BUFFER, COUNTS};
-use picture::{ENDPOINT_BITS, Header, LOCATION_BITS, NEAR_BITS, STATE_BITS, WEIGHT_BITS};
-use write::Writing;
+use picture::{ENDPOINT_BITS, Header, LOCATION_BITS, NEAR_BITS, Refusal, STATE_BITS, WEIGHT_BITS};
+use write::tail::Tail;
 
 // The only edition that is generated.
 const EDITION: usize = 1;
@@ -26,38 +25,55 @@ pub struct DrawnField {
     pub least: usize,
 }
 
-// How far a picture is filled: the bits that are written, those of them that fill no byte yet, and the state of the draws.
+// The fields that take the same draws in every picture: near and protected, a slot's state, and a weight.
+const FLAG: DrawnField = DrawnField {
+    bits: NEAR_BITS,
+    values: 2,
+    least: 0,
+};
+
+const STATE: DrawnField = DrawnField {
+    bits: STATE_BITS,
+    values: 3,
+    least: 0,
+};
+
+const WEIGHT: DrawnField = DrawnField {
+    bits: WEIGHT_BITS,
+    values: 65536,
+    least: 0,
+};
+
+// How far a picture is filled, and the state of the draws.
 #[derive(Clone, Copy)]
 pub struct Progress {
-    pub at: usize,
-    pub held: usize,
+    pub tail: Tail,
     pub state: u64,
 }
 
 // What a field takes of the draw of a state.
+#[tactic(auto, unfolding(crate::specs::Inner::taken))]
 fn take(f: DrawnField, state: u64) -> usize
     requires { Roomy f × (f.bits ≤ 32) }
     ensures { result ≡ taken f (draw_of state) }
 {
+    // Kept: usize has no From<u64>, nor u64 one of usize, here and below.
     (draws::draw_of(state) % f.values) as usize + f.least
 }
 
-// A row of two fields behind what is written up to bit `at`, filled by the draws of two states.
-fn push_row(
-    buf: &mut [u8],
-    at: usize,
-    held: usize,
-    first: DrawnField,
-    second: DrawnField,
-    one: u64,
-    two: u64,
-) -> usize
-    requires { RowFits at held first second buf.old }
-    ensures { Follows buf.old at held (row_fields first second (draw_of one) (draw_of two)) buf.new (at + (first.bits + second.bits)) result }
+// A row of two fields behind what is written, filled by the next two draws.
+fn push_row(buf: &mut [u8], from: Progress, first: DrawnField, second: DrawnField) -> Progress
+    requires { RowFits from first second buf.old }
+    ensures { RowDrawn from first second buf.old buf.new result }
 {
+    let one = draws::next_state(from.state);
+    let two = draws::next_state(one);
     let x = take(first, one);
     let y = take(second, two);
-    write::push_pair(buf, at, held, first.bits, second.bits, x, y)
+    Progress {
+        tail: from.tail.push_pair(buf, first.bits, second.bits, x, y),
+        state: two,
+    }
 }
 
 // Rows of two fields each behind what is written, filled by the next draws.
@@ -71,23 +87,11 @@ fn push_rows(
     requires { RowsFit from first second count buf.old }
     ensures { RowsDrawn from first second count buf.old buf.new result }
 {
-    let at = from.at;
-    let row = first.bits + second.bits;
-    let mut held = from.held;
-    let mut state = from.state;
-    let mut i: usize = 0;
-    while i < count {
-        let one = draws::next_state(state);
-        let two = draws::next_state(one);
-        held = push_row(buf, at + i * row, held, first, second, one, two);
-        state = two;
-        i += 1;
+    let mut progress = from;
+    for _ in 0..count {
+        progress = push_row(buf, progress, first, second);
     }
-    Progress {
-        at: at + count * row,
-        held,
-        state,
-    }
+    progress
 }
 
 // The picture that the draws of a seed fill, over the front of a buffer that is long enough, under a header without a fault.
@@ -95,21 +99,6 @@ fn put_generated(buf: &mut [u8], seed: u64, h: Header)
     requires { Ready h buf.old }
     ensures { buf.new ≡ generated_picture seed h ++ drop (size_of h) buf.old }
 {
-    let flag = DrawnField {
-        bits: NEAR_BITS,
-        values: 2,
-        least: 0,
-    };
-    let state = DrawnField {
-        bits: STATE_BITS,
-        values: 3,
-        least: 0,
-    };
-    let weight = DrawnField {
-        bits: WEIGHT_BITS,
-        values: 65536,
-        least: 0,
-    };
     let location = DrawnField {
         bits: LOCATION_BITS,
         values: h.slots as u64 + 1,
@@ -120,44 +109,35 @@ fn put_generated(buf: &mut [u8], seed: u64, h: Header)
         values: h.endpoints as u64,
         least: 1,
     };
-    write::put_header(buf, h);
-    let start = Progress {
-        at: picture::slots_at(h.edition),
-        held: 0,
+    let header = Progress {
+        tail: write::push_header(buf, h),
         state: seed,
     };
-    let slots = push_rows(buf, start, state, flag, h.slots);
-    let endpoints = push_rows(buf, slots, weight, flag, h.endpoints);
+    let slots = push_rows(buf, header, STATE, FLAG, h.slots);
+    let endpoints = push_rows(buf, slots, WEIGHT, FLAG, h.endpoints);
     let links = push_rows(buf, endpoints, location, location, h.links);
     let end = push_rows(buf, links, location, endpoint, h.service_links);
-    write::push_fill(buf, end.at, end.held);
+    end.tail.push_fill(buf);
 }
 
-// The first fault of the header that is asked for, or 0.
+// The header that is asked for has no fault.
 #[tactic(auto, unfolding(crate::specs::Faults::asked_faults, lists::specs::Lists::on, lists::specs::Lists::first))]
-fn asked_fault(h: Header) -> u8
-    ensures { result ≡ first (asked_faults h) }
+fn judge(h: Header) -> Result<(), Refusal>
+    ensures { fault_of result ≡ first (asked_faults h) }
 {
-    let sizes = picture::sizes_right(h);
-    if !sizes {
-        return BLOCKS;
+    if !picture::sizes_right(h) {
+        return Err(Refusal::Blocks);
     }
-    let counts = picture::counts_right(h);
-    if !counts {
-        return COUNTS;
+    if !picture::counts_right(h) {
+        return Err(Refusal::Counts);
     }
-    let endpoints = h.endpoints;
-    let service_links = h.service_links;
-    if endpoints == 0 {
-        if service_links != 0 {
-            return COUNTS;
-        }
+    if h.endpoints == 0 && h.service_links != 0 {
+        return Err(Refusal::Counts);
     }
-    0
+    Ok(())
 }
 
-// Fills a picture of edition 1 with draws from a seed: its length, or the number of the first fault. It has as many slots as the blocks have
-// together, and all of them may be near.
+// Fills a picture of edition 1 with draws from a seed: its length. It has as many slots as the blocks have together, and all of them may be near.
 pub fn generate(
     seed: u64,
     block_size: u32,
@@ -166,9 +146,10 @@ pub fn generate(
     links: u32,
     service_links: u32,
     buf: &mut [u8],
-) -> Writing
+) -> Result<usize, Refusal>
     ensures { Generates seed (asked_header block_size blocks endpoints links service_links) buf.old result buf.new }
 {
+    // Kept: usize has no From<u32>.
     let slots = block_size as usize * blocks as usize;
     let h = Header {
         edition: picture::edition_for(EDITION),
@@ -179,14 +160,11 @@ pub fn generate(
         links: links as usize,
         service_links: service_links as usize,
     };
-    let number = asked_fault(h);
-    if number != 0 {
-        return Writing::Refused(number);
-    }
+    judge(h)?;
     let size = picture::size_of(h);
     if buf.len() < size {
-        return Writing::Refused(BUFFER);
+        return Err(Refusal::Buffer);
     }
     put_generated(buf, seed, h);
-    Writing::Length(size)
+    Ok(size)
 }

@@ -24,6 +24,11 @@ module _ {linked : ℕ → ℕ → Bool} {held : ℕ → Bool} where
   chain_held origin p = absurd (omega arith)
   chain_held (step c l h) p = h
 
+  -- a chain to a slot has a link
+  pub chain_some : {k v : ℕ} → 1 ≤ v → Chain linked held k v → (j : ℕ) × (k ≡ suc j)
+  chain_some h origin = absurd (omega arith)
+  chain_some h (step {k = k} c l s) = (k, refl)
+
   -- what a chain's last link leads from and to
   pub last_link : {k v : ℕ} → Chain linked held (suc k) v → (a : ℕ) × Chain linked held k a × T (linked a v) × T (held v)
   last_link (step {a = a} c l h) = (a, c, l, h)

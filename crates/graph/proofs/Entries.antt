@@ -12,13 +12,14 @@ use lib.Dec.{T, eqb, eqb→eq}
 use lib.ListN.{length, get_or, set, length-set}
 use lib.Seq.{get_or-set_same, get_or-set_other}
 use Rattle.rows.specs.Rows.{in_word, slots_max}
+use Rattle.graph.specs.declared.Forest.{Forest}
 use Rattle.graph.specs.Sweeps.{Locations, Whole, Entered}
 use Rattle.lists.proofs.Tests.{eq_T}
 use Rattle.rows.proofs.Parts.{done, Union, done_none, done_more, done_marks, marks_done}
 use Rattle.rows.proofs.InWords.{WordLeft, word_begun, word_here, word_picked, word_next, none_in_zero}
 
 -- nothing is marked: no entry is made
-pub entered_none : {marks : ℕ → Bool} {u d : ℕ} {parent depth : List ℕ} → Whole parent depth → ((v : ℕ) → ¬ T (marks v)) → Entered marks u d parent depth parent depth
+pub entered_none : {marks : ℕ → Bool} {u d : ℕ} {f : Forest} → Whole f → ((v : ℕ) → ¬ T (marks v)) → Entered marks u d f f
 entered_none whole none =
     record {
       whole = whole;
@@ -28,23 +29,27 @@ entered_none whole none =
       old_depth = λ v n. refl;
     }
 
-module _ {u d : ℕ} {parent depth parent' depth' : List ℕ} where
+-- the location a gets the parent u and the depth d
+abbrev pub with_entry : (f : Forest) (a u d : ℕ) → Forest
+with_entry f a u d = record f { parent = set f.parent a u; depth = set f.depth a d }
+
+module _ {u d : ℕ} {before after : Forest} where
   -- one more entry
-  entered_more : (a : ℕ) {before after : ℕ → Bool} → Union before (eqb a) after → a ≤ slots_max
-      → Entered before u d parent depth parent' depth' → Entered after u d parent depth (set parent' a u) (set depth' a d)
-  entered_more a {before} {after} both l e =
+  entered_more : (a : ℕ) {marks marks' : ℕ → Bool} → Union marks (eqb a) marks' → a ≤ slots_max
+      → Entered marks u d before after → Entered marks' u d before (with_entry after a u d)
+  entered_more a {marks} {marks'} both l e =
       record {
         whole = record { parents = simp length-set e.whole.parents; depths = simp length-set e.whole.depths };
-        new_parent = λ v t. new parent' u (omega (arith, e.whole.parents)) v (e.new_parent v) t;
-        new_depth = λ v t. new depth' d (omega (arith, e.whole.depths)) v (e.new_depth v) t;
-        old_parent = λ v n. get_or-set_other parent' a v u 0 (other v n) ∙ e.old_parent v (λ t. n (both.of_before v t));
-        old_depth = λ v n. get_or-set_other depth' a v d 0 (other v n) ∙ e.old_depth v (λ t. n (both.of_before v t));
+        new_parent = λ v t. new after.parent u (omega (arith, e.whole.parents)) v (e.new_parent v) t;
+        new_depth = λ v t. new after.depth d (omega (arith, e.whole.depths)) v (e.new_depth v) t;
+        old_parent = λ v n. get_or-set_other after.parent a v u 0 (other v n) ∙ e.old_parent v (λ t. n (both.of_before v t));
+        old_depth = λ v n. get_or-set_other after.depth a v d 0 (other v n) ∙ e.old_depth v (λ t. n (both.of_before v t));
       }
     where
-      other : (v : ℕ) → ¬ T (after v) → v ≡ a → ⊥
+      other : (v : ℕ) → ¬ T (marks' v) → v ≡ a → ⊥
       other v n q = n (both.of_new v (eq_T a v (sym q)))
 
-      new : (xs : List ℕ) (x : ℕ) → a < length xs → (v : ℕ) → (T (before v) → get_or xs v 0 ≡ x) → T (after v) → get_or (set xs a x) v 0 ≡ x
+      new : (xs : List ℕ) (x : ℕ) → a < length xs → (v : ℕ) → (T (marks v) → get_or xs v 0 ≡ x) → T (marks' v) → get_or (set xs a x) v 0 ≡ x
       new xs x l v old t =
           by_cases
           (ℕ_discrete v a)
@@ -56,28 +61,28 @@ pub next_inside : {word base w : ℕ} → Locations (in_word word base) → Word
 next_inside l left some = l.within _ (word_here left some)
 
 -- what is left of the word is w, and what is done of it is entered
-pub record Entering (word base u d w : ℕ) (parent₀ depth₀ parent depth : List ℕ) : Type 0 where
+pub record Entering (word base u d w : ℕ) (before after : Forest) : Type 0 where
   pub left : WordLeft word base w
-  pub entries : Entered (done (in_word word base) (in_word w base)) u d parent₀ depth₀ parent depth
+  pub entries : Entered (done (in_word word base) (in_word w base)) u d before after
 
-module _ {word base u d : ℕ} {parent₀ depth₀ : List ℕ} where
-  pub begun : word < 2 ^ 64 → Whole parent₀ depth₀ → Entering word base u d word parent₀ depth₀ parent₀ depth₀
+module _ {word base u d : ℕ} {before : Forest} where
+  pub begun : word < 2 ^ 64 → Whole before → Entering word base u d word before before
   begun small whole =
       record {
         left = word_begun word base small;
         entries = entered_none whole (done_none (in_word word base) (in_word word base) (λ v t. t));
       }
 
-  module _ {w : ℕ} {parent depth : List ℕ} (s : Entering word base u d w parent₀ depth₀ parent depth) where
-    pub hit : (some : w ≡ 0 → ⊥) → base + count_trailing_zeros 64 w ≤ slots_max
-        → Entering word base u d (bit_and w (w - 1)) parent₀ depth₀ (set parent (base + count_trailing_zeros 64 w) u) (set depth (base + count_trailing_zeros 64 w) d)
-    hit some inside =
+  module _ {w : ℕ} {after : Forest} (s : Entering word base u d w before after) where
+    pub hit : Locations (in_word word base) → (some : w ≡ 0 → ⊥)
+        → Entering word base u d (bit_and w (w - 1)) before (with_entry after (base + count_trailing_zeros 64 w) u d)
+    hit l some =
         record {
           left = word_next s.left some;
-          entries = entered_more (base + count_trailing_zeros 64 w) (done_more s.left.part (word_picked s.left some)) inside s.entries;
+          entries = entered_more (base + count_trailing_zeros 64 w) (done_more s.left.part (word_picked s.left some)) (next_inside l s.left some) s.entries;
         }
 
-    pub ended : w ≡ 0 → Entered (in_word word base) u d parent₀ depth₀ parent depth
+    pub ended : w ≡ 0 → Entered (in_word word base) u d before after
     ended z =
         record {
           whole = s.entries.whole;

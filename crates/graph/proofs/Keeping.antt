@@ -1,7 +1,7 @@
 -- The rules of a forest: one that keeps them has in it exactly what chains reach, and the computed forest keeps them. Assumes nothing.
 use mathlib.Core.Path.{◌≡◌, refl, sym, ap, ◌∙◌}
 use mathlib.Core.Bool.{Bool}
-use mathlib.Core.Logic.{inl, inr, ◌≢◌, ◌↔◌, ⊎_elim, by_cases}
+use mathlib.Core.Logic.{inl, inr, ◌≢◌, ◌↔◌, by_cases}
 use mathlib.Core.List.{List}
 use Prim.Native.Nat.{ℕ, zero, suc, ◌≤◌, ◌<◌, zero-le, suc-le-suc}
 use native.Mathlib.Omega.{arith}
@@ -15,20 +15,11 @@ use Rattle.graph.specs.Chains.{Chain, origin, step, Reached, Fewest, Entry, unre
 use Rattle.graph.specs.declared.Node.{Node}
 use Rattle.graph.specs.Rounds.{forest}
 use Rattle.graph.specs.Kept.{node_of, In, NodeKept, outside, inside, ForestKept}
-use Rattle.graph.proofs.Chains.{chain_none, chain_held, origin_fewest, fewest_one}
+use Rattle.graph.proofs.Chains.{chain_none, chain_some, chain_held, last_link, origin_fewest, fewest_one}
 use Rattle.graph.proofs.Forests.{fewest_reached, entry_one}
-use Rattle.graph.proofs.Steps.{last_step}
 use Rattle.graph.proofs.Nodes.{length_forest, forest_at_lem, node_entry}
 
 -- ---- nodes and their slots
-
--- whether a location is in a forest can be decided
-pub in? : (es : List Node) (v : ℕ) → Dec (In es v)
-in? es v =
-    by_cases
-    (ℕ_discrete v 0)
-    (λ z. yes (inl z))
-    (λ slot. by_cases (ℕ_discrete (node_of es v).depth 0) (λ z. no (⊎_elim slot (λ deep. deep z))) (λ deep. yes (inr deep)))
 
 -- above the slots of a forest there are no nodes
 pub node_above : (es : List Node) (v : ℕ) → length es < v → node_of es v ≡ record { parent = 0; depth = 0 }
@@ -103,8 +94,9 @@ module _ (linked : ℕ → ℕ → Bool) (held : ℕ → Bool) (n : ℕ) (named 
     node_fewest zero k m = fewest_one origin_fewest m
     node_fewest (suc i) k m =
         let h : 1 ≤ suc i = suc-le-suc zero-le in
-        let s = last_step h m.chain in
-        entry_fewest (entries (suc i) h (named s.before (suc i) s.link).1) m
+        let s = chain_some h m.chain in
+        let l = last_link (rw s.1 at m.chain) in
+        entry_fewest (entries (suc i) h (named l.0 (suc i) l.2).1) m
 
     -- so what chains reach is in the forest, and what is in it they reach
     fewest_in : (v k : ℕ) → Fewest linked held v k → In es v

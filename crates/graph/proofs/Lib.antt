@@ -11,7 +11,6 @@ pub mod Sweeps
 pub mod Takes
 pub mod Frontiers
 pub mod Walks
-pub mod Steps
 pub mod Marking
 pub mod Settling
 pub mod Nodes

@@ -18,8 +18,7 @@ use Rattle.lists.proofs.Faults.{on_pass, on_none, on_le}
 use Rattle.graph.specs.Chains.{Chain, Reached, Fewest, Lowest, Entry, unreached, reached}
 use Rattle.graph.specs.declared.Node.{Node}
 use Rattle.graph.specs.Rounds.{within, reached_in, levels, depth_in, reached_by, node_in, forest}
-use Rattle.graph.proofs.Chains.{fewest_one}
-use Rattle.graph.proofs.Steps.{last_step, last_fewest}
+use Rattle.graph.proofs.Chains.{chain_some, fewest_one, fewest_before}
 use Rattle.graph.proofs.Marking.{Marked, marked_chain, chain_marked}
 use Rattle.graph.proofs.Settling.{marked_reached, reached_marked}
 
@@ -157,9 +156,9 @@ module _ (linked : ℕ → ℕ → Bool) (held : ℕ → Bool) (n : ℕ) where
             → Entry linked held v (on (reached_by linked held n Levels v) (lowest (nearer v) (range 0 (suc n)))) (on (reached_by linked held n Levels v) (depth_of v))
         go (inl t) =
             let f = depth_fewest (in-reached v t) in
-            let s = last_step h f.chain in
-            simp (on_pass, t)
-            (rw s.one_more (reached (rw s.one_more at f) (nearer_lowest v s.links s.one_more s.before (last_fewest f s) s.link)))
+            let s = chain_some h f.chain in
+            let b = fewest_before (rw s.1 at f) in
+            simp (on_pass, t) (rw s.1 (reached (rw s.1 at f) (nearer_lowest v s.0 s.1 b.0 b.1 b.2)))
         go (inr t) = simp (on_none, t) (unreached (λ r. T_not (reached_by linked held n Levels v) t (reached_in_lem r)))
 
     pub forest_entry : (v : ℕ) → 1 ≤ v → v ≤ n

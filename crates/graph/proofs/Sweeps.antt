@@ -1,6 +1,5 @@
 -- Sweeps one after another. Assumes nothing.
 use mathlib.Core.Bool.{Bool}
-use mathlib.Core.List.{List}
 use mathlib.Core.Logic.{◌⊎◌, inl, inr, ⊎_elim}
 use Prim.Native.Nat.{ℕ, ◌≤◌}
 use native.Mathlib.Omega.{arith}
@@ -9,6 +8,8 @@ use lib.Dec.{T, eqb, eqb→eq}
 use Rattle.rows.specs.declared.Range.{Range}
 use Rattle.rows.specs.Rows.{marked}
 use Rattle.rows.specs.Ranges.{avoiding}
+use Rattle.graph.specs.declared.Level.{Level}
+use Rattle.graph.specs.declared.Walker.{Walker}
 use Rattle.graph.specs.Sweeps.{Ready, Finds, Sweep, Swept}
 use Rattle.graph.specs.Sweeps.Sweep.{entered, kept}
 use Rattle.rows.proofs.Parts.{done, Part, Picked, Union, done_more, done_below}
@@ -53,19 +54,21 @@ sweep_then j v (kept why) (kept why') = kept (λ t u c. ⊎_elim (λ x. why t u 
 
 -- ---- every slot
 
-module _ {words d : ℕ} {fresh parent depth : List ℕ} where
-  pub swept_none : (frontier : ℕ → Bool) (linked : ℕ → ℕ → Bool) → Ready words fresh parent depth → ((v u : ℕ) → ¬ Finds frontier linked v u)
-      → Swept words frontier linked d fresh parent depth fresh parent depth
+module _ {l : Level} {before : Walker} where
+  pub swept_none : (frontier : ℕ → Bool) (linked : ℕ → ℕ → Bool) → Ready l.words before → ((v u : ℕ) → ¬ Finds frontier (avoiding l.block linked) v u)
+      → Swept l frontier linked before before
   swept_none frontier linked ready none = record { ready = ready; slot = λ v. kept (λ t u. none v u) }
 
-  module _ {fresh' parent' depth' : List ℕ} where
-    pub swept_as : {F G : ℕ → Bool} {L M : ℕ → ℕ → Bool} → ((v : ℕ) → T (marked fresh v) → (u : ℕ) → Finds F L v u → Finds G M v u)
-        → ((v : ℕ) → T (marked fresh v) → (u : ℕ) → Finds G M v u → Finds F L v u)
-        → Swept words F L d fresh parent depth fresh' parent' depth' → Swept words G M d fresh parent depth fresh' parent' depth'
+  module _ {after : Walker} where
+    pub swept_as : {F G : ℕ → Bool} {L M : ℕ → ℕ → Bool}
+        → ((v : ℕ) → T (marked before.fresh v) → (u : ℕ) → Finds F (avoiding l.block L) v u → Finds G (avoiding l.block M) v u)
+        → ((v : ℕ) → T (marked before.fresh v) → (u : ℕ) → Finds G (avoiding l.block M) v u → Finds F (avoiding l.block L) v u)
+        → Swept l F L before after → Swept l G M before after
     swept_as to back s = record { ready = s.ready; slot = λ v. sweep_as (to v) (back v) (s.slot v) }
 
-    pub swept_then : {fresh'' parent'' depth'' : List ℕ} {F G H : ℕ → Bool} {L M N : ℕ → ℕ → Bool} → Joined (Finds F L) (Finds G M) (Finds H N)
-        → Swept words F L d fresh parent depth fresh' parent' depth' → Swept words G M d fresh' parent' depth' fresh'' parent'' depth'' → Swept words H N d fresh parent depth fresh'' parent'' depth''
+    pub swept_then : {last : Walker} {F G H : ℕ → Bool} {L M N : ℕ → ℕ → Bool}
+        → Joined (Finds F (avoiding l.block L)) (Finds G (avoiding l.block M)) (Finds H (avoiding l.block N))
+        → Swept l F L before after → Swept l G M after last → Swept l H N before last
     swept_then j a b = record { ready = b.ready; slot = λ v. sweep_then j v (a.slot v) (b.slot v) }
 
 -- ---- the marks of a frontier, or of a row, taken part by part

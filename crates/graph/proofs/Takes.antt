@@ -13,6 +13,9 @@ use lib.ListN.{length, get_or, set, length-set}
 use Rattle.rows.specs.Rows.{marked, in_word, row_words}
 use Rattle.rows.specs.declared.Range.{Range}
 use Rattle.rows.specs.Ranges.{without, avoiding, LeftOut}
+use Rattle.graph.specs.declared.Forest.{Forest}
+use Rattle.graph.specs.declared.Level.{Level}
+use Rattle.graph.specs.declared.Walker.{Walker}
 use Rattle.graph.specs.Sweeps.{Locations, Whole, Ready, WordSwept, Finds, Sweep, Swept}
 use Rattle.graph.specs.Sweeps.Sweep.{entered, kept}
 use Rattle.lists.proofs.Tests.{T?, is_true, is_false, xor_false}
@@ -31,51 +34,53 @@ module _ {r : Range} (word fresh : ℕ) {base : ℕ} where
   pub new_locations : {new : ℕ} → LeftOut r (bit_and word fresh) base new → Locations (in_word fresh base) → Locations (in_word new base)
   new_locations o l = record { within = λ v t. l.within v (common_words word fresh base v (without_both r _ v (subst T (o.marks v) t)).0).1 }
 
-  -- there is nothing: the word is passed over
-  pub word_passed : {new u d : ℕ} {parent depth : List ℕ} → Whole parent depth → LeftOut r (bit_and word fresh) base new → new ≡ 0 → WordSwept r word fresh base u d parent depth parent depth fresh
-  word_passed {new} whole o z = record { new = new; found = o; entered = entered_none whole (none_in_zero new base z); same = rw z (sym (xor_zero_r fresh)) }
+-- there is nothing: the word is passed over
+pub word_passed : {l : Level} (word fresh : ℕ) {base new u : ℕ} {f : Forest} → Whole f → LeftOut l.block (bit_and word fresh) base new → new ≡ 0 → WordSwept l word fresh base u f f fresh
+word_passed word fresh {base} {new} whole o z = record { new = new; found = o; entered = entered_none whole (none_in_zero new base z); same = rw z (sym (xor_zero_r fresh)) }
 
 -- ---- one word of a row
 
-module _ (r : Range) (row fresh : List ℕ) (i : ℕ) {u d left : ℕ} {parent depth parent' depth' : List ℕ}
-    (w : WordSwept r (get_or row i 0) (get_or fresh i 0) (i * 64) u d parent depth parent' depth' left) where
+module _ {l : Level} (row : List ℕ) (before : Walker) (i : ℕ) {u left : ℕ} {forest : Forest}
+    (w : WordSwept l (get_or row i 0) (get_or before.fresh i 0) (i * 64) u before.forest forest left) where
+  abbrev after : Walker
+  after = record { fresh = set before.fresh i left; forest = forest }
+
   abbrev is_new : ℕ → Bool
   is_new = in_word w.new (i * 64)
 
-  abbrev fresh' : List ℕ
-  fresh' = set fresh i left
-
   -- what is entered is fresh, and marked in the row outside the range
-  new_marked : (v : ℕ) → T (is_new v) → (v / 64 ≡ i) × T (marked fresh v) × T (without r (in_word (get_or row i 0) (i * 64)) v)
+  new_marked : (v : ℕ) → T (is_new v) → (v / 64 ≡ i) × T (marked before.fresh v) × T (without l.block (in_word (get_or row i 0) (i * 64)) v)
   new_marked v t =
       let o = subst T (w.found.marks v) t in
-      let s = word_marked fresh i v (common_words (get_or row i 0) (get_or fresh i 0) (i * 64) v (without_both r _ v o).0).1 in
-      (s.0, s.1, without_as r _ _ v (λ m. (common_words (get_or row i 0) (get_or fresh i 0) (i * 64) v m).0) o)
+      let s = word_marked before.fresh i v (common_words (get_or row i 0) (get_or before.fresh i 0) (i * 64) v (without_both l.block _ v o).0).1 in
+      (s.0, s.1, without_as l.block _ _ v (λ m. (common_words (get_or row i 0) (get_or before.fresh i 0) (i * 64) v m).0) o)
 
-  marked_new : (v : ℕ) → T (without r (in_word (get_or row i 0) (i * 64)) v) → T (marked fresh v) → T (is_new v)
+  marked_new : (v : ℕ) → T (without l.block (in_word (get_or row i 0) (i * 64)) v) → T (marked before.fresh v) → T (is_new v)
   marked_new v s t =
       subst T (sym (w.found.marks v))
-      (without_as r _ _ v (λ m. both_words (get_or row i 0) (get_or fresh i 0) (i * 64) v m (marked_word fresh i v (word_marked row i v m).0 t)) s)
+      (without_as l.block _ _ v (λ m. both_words (get_or row i 0) (get_or before.fresh i 0) (i * 64) v m (marked_word before.fresh i v (word_marked row i v m).0 t)) s)
 
-  module _ {words : ℕ} (ready : Ready words fresh parent depth) (low : i < length fresh) where
-    cleared : (v : ℕ) → v / 64 ≡ i → marked fresh' v ≡ xor (marked fresh v) (is_new v)
+  module _ (ready : Ready l.words before) (low : i < length before.fresh) where
+    cleared : (v : ℕ) → v / 64 ≡ i → marked after.fresh v ≡ xor (marked before.fresh v) (is_new v)
     cleared v q =
-        mark_here fresh i left low v q
-        ∙ rw (w.same, mark_is fresh i v q, word_is w.new i v q) (digit_xor (get_or fresh i 0) w.new (v % 64))
+        mark_here before.fresh i left low v q
+        ∙ rw (w.same, mark_is before.fresh i v q, word_is w.new i v q) (digit_xor (get_or before.fresh i 0) w.new (v % 64))
 
     Slot : ℕ → Type 0
     Slot v =
-        Sweep (Finds (eqb u) (avoiding r (λ _. in_word (get_or row i 0) (i * 64))) v) d (marked fresh v) (get_or parent v 0) (get_or depth v 0) (marked fresh' v) (get_or parent' v 0) (get_or depth' v 0)
+        Sweep (Finds (eqb u) (avoiding l.block (λ _. in_word (get_or row i 0) (i * 64))) v) l.depth
+        (marked before.fresh v) (get_or before.forest.parent v 0) (get_or before.forest.depth v 0)
+        (marked after.fresh v) (get_or after.forest.parent v 0) (get_or after.forest.depth v 0)
 
     new_slot : (v : ℕ) → T (is_new v) → Slot v
     unfolding Slot xor
     new_slot v t =
         let s = new_marked v t in
-        rw (cleared v s.0, is_true (marked fresh v) s.1, is_true (is_new v) t, w.entered.new_parent v t, w.entered.new_depth v t)
+        rw (cleared v s.0, is_true (marked before.fresh v) s.1, is_true (is_new v) t, w.entered.new_parent v t, w.entered.new_depth v t)
         (entered tt (record { found = record { there = eqb_refl u; link = s.2 }; lowest = λ a c. le_of_eq (eqb→eq u a c.there) }))
 
-    same : (v : ℕ) → ¬ T (is_new v) → marked fresh' v ≡ marked fresh v
-    same v n = by_cases (ℕ_discrete (v / 64) i) (λ q. cleared v q ∙ rw (is_false (is_new v) n, xor_false)) (mark_other fresh i left v)
+    same : (v : ℕ) → ¬ T (is_new v) → marked after.fresh v ≡ marked before.fresh v
+    same v n = by_cases (ℕ_discrete (v / 64) i) (λ q. cleared v q ∙ rw (is_false (is_new v) n, xor_false)) (mark_other before.fresh i left v)
 
     old_slot : (v : ℕ) → ¬ T (is_new v) → Slot v
     unfolding Slot
@@ -84,7 +89,7 @@ module _ (r : Range) (row fresh : List ℕ) (i : ℕ) {u d left : ℕ} {parent d
     slots : (v : ℕ) → Slot v
     slots v = by_cases (T? (is_new v)) (new_slot v) (old_slot v)
 
-    pub word_swept : Swept words (eqb u) (avoiding r (λ _. in_word (get_or row i 0) (i * 64))) d fresh parent depth fresh' parent' depth'
+    pub word_swept : Swept l (eqb u) (λ _. in_word (get_or row i 0) (i * 64)) before after
     unfolding Slot
     word_swept =
         record {
@@ -101,24 +106,24 @@ module _ (r : Range) (row fresh : List ℕ) (i : ℕ) {u d left : ℕ} {parent d
 -- ---- the loop over the words
 
 -- the row's marks in the words below i are swept
-pub record Sweeping (r : Range) (row : List ℕ) (words u d i : ℕ) (fresh₀ parent₀ depth₀ fresh parent depth : List ℕ) : Type 0 where
-  pub swept : Swept words (eqb u) (avoiding r (λ _. done (marked row) (from_word i (marked row)))) d fresh₀ parent₀ depth₀ fresh parent depth
+pub record Sweeping (l : Level) (row : List ℕ) (u i : ℕ) (before after : Walker) : Type 0 where
+  pub swept : Swept l (eqb u) (λ _. done (marked row) (from_word i (marked row))) before after
 
-module _ {r : Range} {row : List ℕ} {words u d : ℕ} {fresh₀ parent₀ depth₀ : List ℕ} where
-  pub begun : Ready words fresh₀ parent₀ depth₀ → Sweeping r row words u d 0 fresh₀ parent₀ depth₀ fresh₀ parent₀ depth₀
-  begun ready = record { swept = swept_none _ _ ready (λ v w f. done_none _ _ (from_first (marked row)) v (without_both r _ v f.link).0) }
+module _ {l : Level} {row : List ℕ} {u : ℕ} {before : Walker} where
+  pub begun : Ready l.words before → Sweeping l row u 0 before before
+  begun ready = record { swept = swept_none _ _ ready (λ v w f. done_none _ _ (from_first (marked row)) v (without_both l.block _ v f.link).0) }
 
-  module _ {i : ℕ} {fresh parent depth : List ℕ} (s : Sweeping r row words u d i fresh₀ parent₀ depth₀ fresh parent depth) where
-    pub next : {left : ℕ} {parent' depth' : List ℕ} → i < row_words → WordSwept r (get_or row i 0) (get_or fresh i 0) (i * 64) u d parent depth parent' depth' left
-        → Sweeping r row words u d (i + 1) fresh₀ parent₀ depth₀ (set fresh i left) parent' depth'
-    next l w =
-        let before = s.swept.ready in
-        record { swept = swept_then (row_joined (from_part i (marked row)) (row_picked row i) r u) s.swept (word_swept r row fresh i w before (omega (arith, before.long))) }
+  module _ {i : ℕ} {after : Walker} (s : Sweeping l row u i before after) where
+    pub next : {left : ℕ} {forest : Forest} → i < row_words → WordSwept l (get_or row i 0) (get_or after.fresh i 0) (i * 64) u after.forest forest left
+        → Sweeping l row u (i + 1) before (record { fresh = set after.fresh i left; forest = forest })
+    next low w =
+        let ready = s.swept.ready in
+        record { swept = swept_then (row_joined (from_part i (marked row)) (row_picked row i) l.block u) s.swept (word_swept row after i w ready (omega (arith, ready.long))) }
 
     -- a slot that was fresh is in one of the first words, so that the row's marks in others find none
-    pub ended : Ready words fresh₀ parent₀ depth₀ → words ≤ i → Swept words (eqb u) (avoiding r (λ _. marked row)) d fresh₀ parent₀ depth₀ fresh parent depth
-    ended ready l =
+    pub ended : Ready l.words before → l.words ≤ i → Swept l (eqb u) (λ _. marked row) before after
+    ended ready past =
         swept_as
-        (λ v t w f. record { there = f.there; link = without_as r _ _ v (λ m. (done_split _ _ v m).0) f.link })
-        (λ v t w f. record { there = f.there; link = without_as r _ _ v (λ m. split_done _ _ v m (λ o. narrow_past ready.narrow l v (from_word_lem i (marked row) v o).0 t)) f.link })
+        (λ v t w f. record { there = f.there; link = without_as l.block _ _ v (λ m. (done_split _ _ v m).0) f.link })
+        (λ v t w f. record { there = f.there; link = without_as l.block _ _ v (λ m. split_done _ _ v m (λ o. narrow_past ready.narrow past v (from_word_lem i (marked row) v o).0 t)) f.link })
         s.swept

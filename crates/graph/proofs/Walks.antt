@@ -2,17 +2,17 @@
 use mathlib.Core.Bool.{Bool, xor, ◌||◌}
 use mathlib.Core.List.{List}
 use mathlib.Core.Logic.{◌⊎◌, inl, inr, by_cases, ⊎_elim}
-use mathlib.Core.Path.{◌≡◌, ap, ◌∙◌}
-use Prim.Native.Nat.{ℕ, ◌+◌, ◌≤◌, ◌<◌, zero-le}
+use mathlib.Core.Path.{◌≡◌, refl, ap, ◌∙◌}
+use Prim.Native.Nat.{ℕ, suc, ◌+◌, ◌≤◌, ◌<◌}
 use native.Mathlib.Omega.{arith}
 use native.Mathlib.Decide.{ℕ_discrete}
-use native.Mathlib.Numerals.{add-one}
 use lib.Bits.{bit_or}
 use lib.Dec.{T, eqb, eqb→eq}
 use lib.ListN.{length, get_or, set, replicate, length-replicate}
 use Rattle.rows.specs.Rows.{marked, linked_in, words_for, Narrow, locations_max, slots_max, row_words, Differ}
 use Rattle.rows.specs.declared.Range.{Range}
 use Rattle.rows.specs.Ranges.{without, avoiding}
+use Rattle.graph.specs.declared.Walker.{Walker}
 use Rattle.graph.specs.Held.{held_in, SlotsOnly}
 use Rattle.graph.specs.Steps.{Walked}
 use Rattle.graph.specs.Sweeps.{Locations, Ready, Swept}
@@ -26,13 +26,14 @@ use Rattle.rows.proofs.Ranges.{without_both}
 use Rattle.graph.proofs.Held.{slot_held, held_within}
 use Rattle.graph.proofs.Avoiding.{walked_without}
 
--- d levels are walked, over the words that the locations 0 to n take
-pub record Walking (r : Range) (links : List (List ℕ)) (held : List ℕ) (n words d : ℕ) (frontier fresh parent depth : List ℕ) : Type 0 where
+-- the levels below d are walked, over the words that the locations 0 to n take
+pub record Walking (r : Range) (links : List (List ℕ)) (held : List ℕ) (n words d : ℕ) (frontier : List ℕ) (w : Walker) : Type 0 where
   pub only : SlotsOnly n held
   pub few : words ≡ words_for n
-  pub low : d ≤ slots_max
-  pub ready : Ready words fresh parent depth
-  pub levels : Levels (avoiding r (linked_in links)) (held_in held) d (marked frontier) (marked fresh) (λ v. get_or parent v 0) (λ v. get_or depth v 0)
+  pub walked : ℕ
+  pub next_level : d ≡ suc walked
+  pub ready : Ready words w
+  pub levels : Levels (avoiding r (linked_in links)) (held_in held) walked (marked frontier) (marked w.fresh) (λ v. get_or w.forest.parent v 0) (λ v. get_or w.forest.depth v 0)
 
 -- the held slots are in these words
 narrow_held : {n words : ℕ} {held : List ℕ} → SlotsOnly n held → words ≡ words_for n → Narrow words held
@@ -41,12 +42,13 @@ narrow_held {n} {words} {held} only few = rw few (narrow_for n held only.most on
 module _ {r : Range} {links : List (List ℕ)} {held : List ℕ} {n words : ℕ} where
   -- the frontier is the origin
   pub begun : SlotsOnly n held → words ≡ words_for n → length held ≡ row_words
-      → Walking r links held n words 0 (set (replicate row_words 0) 0 1) held (replicate locations_max 0) (replicate locations_max 0)
+      → Walking r links held n words 1 (set (replicate row_words 0) 0 1) (record { fresh = held; forest = record { parent = replicate locations_max 0; depth = replicate locations_max 0; reached = replicate row_words 0 } })
   begun only few l =
       record {
         only = only;
         few = few;
-        low = zero-le;
+        walked = 0;
+        next_level = refl;
         ready =
             record {
               long = l;
@@ -69,7 +71,7 @@ module _ {r : Range} {links : List (List ℕ)} {held : List ℕ} {n words : ℕ}
           with_origin (replicate row_words 0) (omega arith) v
           ∙ ap (λ b. b || eqb v 0) (clear_row row_words v)
 
-  module _ {d : ℕ} {frontier fresh parent depth : List ℕ} (w : Walking r links held n words d frontier fresh parent depth) where
+  module _ {d : ℕ} {frontier : List ℕ} {walker : Walker} (w : Walking r links held n words d frontier walker) where
     pub held_narrow : Narrow words held
     held_narrow = narrow_held w.only w.few
 
@@ -88,20 +90,21 @@ module _ {r : Range} {links : List (List ℕ)} {held : List ℕ} {n words : ℕ}
     frontier_narrow = rw w.few (narrow_for n frontier w.only.most within)
 
     -- one more level is swept
-    pub next : {frontier' fresh' parent' depth' : List ℕ} → d < slots_max → Swept words (marked frontier) (avoiding r (linked_in links)) (d + 1) fresh parent depth fresh' parent' depth'
-        → Differ fresh fresh' frontier' → Walking r links held n words (d + 1) frontier' fresh' parent' depth'
-    next l s t =
+    pub next : {frontier' : List ℕ} {walker' : Walker} → Swept (record { words = words; block = r; depth = d }) (marked frontier) (linked_in links) walker walker'
+        → Differ walker.fresh walker'.fresh frontier' → Walking r links held n words (d + 1) frontier' walker'
+    next s t =
         record {
           only = w.only;
           few = w.few;
-          low = omega arith;
+          walked = d;
+          next_level = omega arith;
           ready = s.ready;
-          levels = rw add-one (levels_next w.levels (rw add-one at s.slot) t.marks);
+          levels = rw w.next_level (levels_next w.levels (rw w.next_level at s.slot) t.marks);
         }
 
     -- the frontier is empty or the levels are as many as the slots: what is taken from the held slots is reached, with the origin
-    pub ended : {row : List ℕ} → 0 < length row → Differ held fresh row → ((v : ℕ) → ¬ T (marked frontier v)) ⊎ (slots_max ≤ d)
-        → Walked (linked_in links) (without r (held_in held)) (marked (set row 0 (bit_or (get_or row 0 0) 1))) parent depth
+    pub ended : {row : List ℕ} → 0 < length row → Differ held walker.fresh row → ((v : ℕ) → ¬ T (marked frontier v)) ⊎ (slots_max < d)
+        → Walked (linked_in links) (without r (held_in held)) (marked (set row 0 (bit_or (get_or row 0 0) 1))) walker.forest.parent walker.forest.depth
     ended {row} l t over =
         walked_without r
         (record {
@@ -127,11 +130,11 @@ module _ {r : Range} {links : List (List ℕ)} {held : List ℕ} {n words : ℕ}
               (λ ne. T-or-l (marked row v) (eqb v 0) (rw (row_is v (omega arith)) (reached_taken w.levels n bound enough (omega arith) x))));
         })
       where
-        enough : ((v : ℕ) → ¬ T (marked frontier v)) ⊎ (n ≤ d)
-        enough = ⊎_elim inl (λ h. inr (omega (arith, w.only.most))) over
+        enough : ((v : ℕ) → ¬ T (marked frontier v)) ⊎ (n ≤ w.walked)
+        enough = ⊎_elim inl (λ h. inr (omega (arith, w.next_level, w.only.most))) over
 
-        row_is : (v : ℕ) → 0 < v → marked row v ≡ xor (held_in held v) (marked fresh v)
-        row_is v p = t.marks v ∙ ap (λ b. xor b (marked fresh v)) (slot_held held v p)
+        row_is : (v : ℕ) → 0 < v → marked row v ≡ xor (held_in held v) (marked walker.fresh v)
+        row_is v p = t.marks v ∙ ap (λ b. xor b (marked walker.fresh v)) (slot_held held v p)
 
 -- a reached location is the origin or a held slot
 pub walked_within : {n : ℕ} {held : List ℕ} {linked : ℕ → ℕ → Bool} (r : Range) {reaches : ℕ → Bool} {parent depth : List ℕ} → SlotsOnly n held

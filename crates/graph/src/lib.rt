@@ -3,7 +3,7 @@
 
 ghost use Rattle.std.specs.Prelude.{◌<◌, eqb};
 ghost use Rattle.rows.specs.Rows.{marked, linked_in, in_word, Narrow, marks_max};
-ghost use Rattle.rows.specs.Ranges.{no_range, without, avoiding};
+ghost use Rattle.rows.specs.Ranges.{no_range, without};
 ghost use Rattle.graph.specs.Held.{held_in, SlotsOnly};
 ghost use Rattle.graph.specs.Steps.{Walked};
 ghost use Rattle.graph.specs.Sweeps.{Locations, Whole, Ready, Entered, WordSwept, Swept};
@@ -11,6 +11,7 @@ ghost use Rattle.graph.specs.Sweeps.{Locations, Whole, Ready, Entered, WordSwept
 use rows::{LOCATIONS, Range, SLOTS, WORDS};
 
 // No chain of fewest links steps to a slot twice.
+// Kept: no From may be called in a constant.
 const DEEPEST: u16 = SLOTS as u16;
 
 // An entry of a forest (01: the parent and the depth of a slot).
@@ -21,6 +22,7 @@ pub struct Node {
 }
 
 // The entries of all locations, and a row of what is reached.
+// Kept: parents and depths in two arrays, the form that is asked for.
 #[derive(Clone, Copy)]
 pub struct Forest {
     pub parent: [u16; LOCATIONS],
@@ -28,127 +30,110 @@ pub struct Forest {
     pub reached: [u64; WORDS],
 }
 
-// The slots that are marked in a word, whose first place is location base, get the parent u and the depth d.
-fn enter(
-    parent: &mut [u16; LOCATIONS],
-    depth: &mut [u16; LOCATIONS],
-    word: u64,
-    base: usize,
-    u: u16,
-    d: u16,
-)
-    requires locations { Locations (in_word word base) }
-    requires whole { Whole parent.old depth.old }
-    ensures { Entered (in_word word base) u d
-        parent.old depth.old parent.new depth.new }
-{
-    let mut w = word;
-    while w != 0 {
-        let v = base + (u64::trailing_zeros(w) as usize);
-        parent[v] = u;
-        depth[v] = d;
-        w = w & (w - 1);
-    }
+// How far a walk has come: the held slots that have no entry yet, and the entries of all locations. With the forest before them choose takes a
+// quarter more at full size.
+// Kept: contracts say that it is `Ready`; for an invariant the words would have to be in it, and choose then takes 9 % more on a long chain.
+#[derive(Drop)]
+struct Walker {
+    fresh: [u64; WORDS],
+    forest: Forest,
 }
 
-// One word of a row, whose first place is location base: the fresh slots that it marks get the parent u and the depth d, and those that are
-// left are fresh still. Those of the range stay as they are.
-fn sweep_at(
-    word: u64,
-    fresh: u64,
-    base: usize,
-    block: Range,
-    parent: &mut [u16; LOCATIONS],
-    depth: &mut [u16; LOCATIONS],
-    u: u16,
-    d: u16,
-) -> u64
-    requires { Locations (in_word fresh base) × Whole parent.old depth.old × (base < marks_max) }
-    ensures { WordSwept block word fresh base u d parent.old depth.old parent.new depth.new result }
-{
-    let found = rows::leave_out(word & fresh, base, block);
-    if found == 0 {
-        return fresh;
-    }
-    enter(parent, depth, found, base, u, d);
-    fresh ^ found
-}
-
-// One row: the fresh slots that are marked in it get the parent u and the depth d, and are fresh no more. Those of the range stay as they are.
-fn sweep(
-    row: [u64; WORDS],
+// What a level is swept by: how many words of a row can have marks, the range whose slots stay as they are, and the depth that the others get.
+#[derive(Clone, Copy)]
+struct Level {
     words: usize,
     block: Range,
-    fresh: &mut [u64; WORDS],
-    parent: &mut [u16; LOCATIONS],
-    depth: &mut [u16; LOCATIONS],
-    u: u16,
-    d: u16,
-)
-    requires { Ready words fresh.old parent.old depth.old }
-    ensures { Swept words (eqb u) (avoiding block (λ _. marked row)) d
-        fresh.old parent.old depth.old
-        fresh.new parent.new depth.new }
-{
-    let mut k: usize = 0;
-    while k < WORDS {
-        if rows::is_end(k, words) {
-            break;
+    depth: u16,
+}
+
+impl Forest {
+    // The slots that are marked in a word, whose first place is location base, get the parent u and the depth d.
+    #[tactic(auto, using(crate::proofs::Entries::next_inside))]
+    fn enter(&mut self, word: u64, base: usize, u: u16, d: u16)
+        requires locations { Locations (in_word word base) }
+        requires whole { Whole self.old }
+        ensures { Entered (in_word word base) u d self.old self.new }
+    {
+        let mut w = word;
+        // Kept: no index is counted, each round takes the lowest mark off; an iterator that gives the marks would be longer.
+        while w != 0 {
+            // Kept: usize has no From<u32>, here and in the sweep.
+            let v = base + w.trailing_zeros() as usize;
+            self.parent[v] = u;
+            self.depth[v] = d;
+            w &= w - 1;
         }
-        fresh[k] = sweep_at(row[k], fresh[k], k * 64, block, parent, depth, u, d);
-        k += 1;
+    }
+
+    // One word of a row, whose first place is location base: the fresh slots that it marks get the parent u and the level's depth, and those that
+    // are left are fresh still. Those of the level's range stay as they are.
+    fn sweep_at(&mut self, word: u64, fresh: u64, base: usize, u: u16, level: Level) -> u64
+        requires { Locations (in_word fresh base) × Whole self.old × (base < marks_max) }
+        ensures { WordSwept level word fresh base u self.old self.new result }
+    {
+        let found = rows::leave_out(word & fresh, base, level.block);
+        if found == 0 {
+            return fresh;
+        }
+        self.enter(found, base, u, level.depth);
+        fresh ^ found
     }
 }
 
-// The rows of the locations that are marked in a word, in rising order.
-fn sweep_word(
-    links: &[[u64; WORDS]; LOCATIONS],
-    word: u64,
-    base: usize,
-    words: usize,
-    block: Range,
-    fresh: &mut [u64; WORDS],
-    parent: &mut [u16; LOCATIONS],
-    depth: &mut [u16; LOCATIONS],
-    d: u16,
-)
-    requires locations { Locations (in_word word base) }
-    requires ready { Ready words fresh.old parent.old depth.old }
-    ensures { Swept words (in_word word base) (avoiding block (linked_in links.now)) d
-        fresh.old parent.old depth.old
-        fresh.new parent.new depth.new }
-{
-    let mut w = word;
-    while w != 0 {
-        let u = base + (u64::trailing_zeros(w) as usize);
-        let row = links[u];
-        sweep(row, words, block, fresh, parent, depth, u as u16, d);
-        w = w & (w - 1);
+impl Walker {
+    // One row: the fresh slots that are marked in it get the parent u and the level's depth, and are fresh no more. Those of the level's range
+    // stay as they are.
+    fn sweep_row(&mut self, row: [u64; WORDS], u: u16, level: Level)
+        requires { Ready level.words self.old }
+        ensures { Swept level (eqb u) (λ _. marked row) self.old self.new }
+    {
+        for k in 0..WORDS {
+            if rows::is_end(k, level.words) {
+                break;
+            }
+            let fresh = self.fresh[k];
+            self.fresh[k] = self.forest.sweep_at(row[k], fresh, k * 64, u, level);
+        }
     }
-}
 
-// One level: the rows of the frontier, in rising order.
-fn level(
-    links: &[[u64; WORDS]; LOCATIONS],
-    frontier: [u64; WORDS],
-    words: usize,
-    block: Range,
-    fresh: &mut [u64; WORDS],
-    parent: &mut [u16; LOCATIONS],
-    depth: &mut [u16; LOCATIONS],
-    d: u16,
-)
-    requires locations { Locations (marked frontier) × Narrow words frontier }
-    requires ready { Ready words fresh.old parent.old depth.old }
-    ensures { Swept words (marked frontier) (avoiding block (linked_in links.now)) d
-        fresh.old parent.old depth.old
-        fresh.new parent.new depth.new }
-{
-    let mut i: usize = 0;
-    while i < words {
-        let word = frontier[i];
-        sweep_word(links, word, i * 64, words, block, fresh, parent, depth, d);
-        i += 1;
+    // The rows of the locations that are marked in a word, in rising order.
+    #[tactic(auto, using(crate::proofs::Entries::next_inside))]
+    fn sweep_word(
+        &mut self,
+        links: &[[u64; WORDS]; LOCATIONS],
+        word: u64,
+        base: usize,
+        level: Level,
+    )
+        requires locations { Locations (in_word word base) }
+        requires ready { Ready level.words self.old }
+        ensures { Swept level (in_word word base) (linked_in links.now) self.old self.new }
+    {
+        let mut w = word;
+        // Kept: as in `enter`.
+        while w != 0 {
+            let u = base + w.trailing_zeros() as usize;
+            // Kept: `u` is proved to fit, and try_from asks for an error that cannot be.
+            self.sweep_row(links[u], u as u16, level);
+            w &= w - 1;
+        }
+    }
+
+    // One level: the rows of the frontier, in rising order.
+    fn sweep_frontier(
+        &mut self,
+        links: &[[u64; WORDS]; LOCATIONS],
+        frontier: [u64; WORDS],
+        level: Level,
+    )
+        requires locations { Locations (marked frontier) × Narrow level.words frontier }
+        requires ready { Ready level.words self.old }
+        ensures { Swept level (marked frontier) (linked_in links.now) self.old self.new }
+    {
+        for i in 0..level.words {
+            self.sweep_word(links, frontier[i], i * 64, level);
+        }
     }
 }
 
@@ -164,37 +149,32 @@ fn walk_over(
     ensures { Walked (linked_in links.now) (without block (held_in held)) (marked result.reached) result.parent result.depth }
 {
     let words = rows::words_for(n);
-    let mut parent = [0u16; LOCATIONS];
-    let mut depth = [0u16; LOCATIONS];
-    let mut fresh = held;
+    let mut walker = Walker {
+        fresh: held,
+        forest: Forest {
+            parent: [0; LOCATIONS],
+            depth: [0; LOCATIONS],
+            reached: [0; WORDS],
+        },
+    };
     let mut frontier = [0u64; WORDS];
     frontier[0] = 1;
-    let mut d: u16 = 0;
-    while d < DEEPEST {
+    for depth in 1..=DEEPEST {
         if rows::none_marked(frontier, words) {
             break;
         }
-        let before = fresh;
-        d += 1;
-        level(
-            links,
-            frontier,
+        let before = walker.fresh;
+        let level = Level {
             words,
             block,
-            &mut fresh,
-            &mut parent,
-            &mut depth,
-            d,
-        );
-        frontier = rows::differ(before, fresh, words);
+            depth,
+        };
+        walker.sweep_frontier(links, frontier, level);
+        frontier = rows::differ(before, walker.fresh, words);
     }
-    let mut reached = rows::differ(held, fresh, words);
-    reached[0] = reached[0] | 1;
-    Forest {
-        parent,
-        depth,
-        reached,
-    }
+    walker.forest.reached = rows::differ(held, walker.fresh, words);
+    walker.forest.reached[0] |= 1;
+    walker.forest
 }
 
 // The walks take their table by value and lend it, so that the compiler need not copy it: through the held slots,

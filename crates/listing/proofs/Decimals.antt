@@ -17,7 +17,6 @@ use Rattle.lists.proofs.Searches.{place_le, place_first, place_is}
 use Rattle.lists.proofs.Picks.{get_d_range}
 use Rattle.io.specs.Digits.{last_digits, IsDigitCount}
 use Rattle.listing.specs.Decimal.{places, decimal}
-use Rattle.listing.specs.Text.{Texted}
 use Rattle.listing.specs.Listing.{phrase}
 
 -- j is below 10 to the j
@@ -65,8 +64,3 @@ decimal_short n h =
 pub phrase_short : (word : List ℕ) (n : ℕ) → n < 10 ^ 8 → length (phrase word n) ≤ length word + 8
 unfolding phrase
 phrase_short word n h = omega (arith, length-append word (decimal n), decimal_short n h)
-
--- so that they end there
-pub phrase_ends : {buf : List ℕ} {at : ℕ} (word : List ℕ) {n : ℕ} {out : List ℕ} {end : ℕ} → Texted buf at (phrase word n) out end → n < 10 ^ 8
-    → end ≤ at + (length word + 8)
-phrase_ends word {n} t h = omega (arith, t.ends, phrase_short word n h)

@@ -5,54 +5,47 @@ use Prim.Native.Nat.{ℕ, ◌+◌, ◌≤◌}
 use native.Mathlib.Omega.{arith}
 use native.Mathlib.Nat.{zero-add}
 use lib.ListN.{length, take, drop, length-append}
-use lib.Seq.{paste, paste-zero, length-paste, take-length, take-paste, drop-paste, drop-drop, take-append_seam}
-use Rattle.listing.specs.Text.{Texted}
+use lib.Seq.{paste, paste-zero, take-length, take-paste, drop-paste, drop-drop, take-append_seam}
+use Rattle.listing.specs.declared.Text.{Text}
+use Rattle.listing.specs.Text.{Puts}
 
--- nothing is written yet
-pub text_none : (buf : List ℕ) (at : ℕ) → at ≤ length buf → Texted buf at [] buf at
-text_none buf at h = record { room = omega arith; ends = omega arith; bytes = paste-zero buf at [] }
+-- nothing is put yet
+pub text_none : (t : Text) → t.end ≤ length t.buf.now → Puts t [] t
+text_none t h = record { room = omega arith; ends = omega arith; bytes = paste-zero t.buf.now t.end []; long = refl; same = refl }
 
--- a copy of the whole word is its text
-pub text_word : (buf : List ℕ) (at : ℕ) (word : List ℕ) → at + length word ≤ length buf
-    → Texted buf at word (paste buf at word (length word)) (at + length word)
-text_word buf at word h = record { room = h; ends = refl; bytes = rw (take-length word) }
-
-module _ {buf : List ℕ} {at : ℕ} {text out : List ℕ} {end : ℕ} (t : Texted buf at text out end) where
+module _ {old new : Text} {text : List ℕ} (t : Puts old text new) where
   -- the text is a copy of all its bytes
-  copied : out ≡ paste buf at text (length text)
+  copied : new.buf.now ≡ paste old.buf.now old.end text (length text)
   copied = t.bytes ∙ rw (take-length text)
 
-  -- the buffer keeps its length
-  pub text_long : length out ≡ length buf
-  text_long = ap length copied ∙ length-paste buf at text (length text) t.room (omega arith)
-
   -- what stands up to the end of the text
-  text_front : take end out ≡ take at buf ++ text
-  text_front = rw (t.ends, copied, take-paste buf at text (length text) (omega (arith, t.room)) (omega arith), take-length text)
+  text_front : take new.end new.buf.now ≡ take old.end old.buf.now ++ text
+  text_front = rw (t.ends, copied, take-paste old.buf.now old.end text (length text) (omega (arith, t.room)) (omega arith), take-length text)
 
   -- what stands from k bytes behind the text on
-  text_rest : (k : ℕ) → drop (end + k) out ≡ drop (end + k) buf
+  text_rest : (k : ℕ) → drop (new.end + k) new.buf.now ≡ drop (new.end + k) old.buf.now
   text_rest k =
-      let behind : drop end out ≡ drop end buf =
-      rw (t.ends, copied, drop-paste buf at text (length text) (omega (arith, t.room)) (omega arith)) in
-      sym (drop-drop k end out) ∙ ap (drop k) behind ∙ drop-drop k end buf
+      let behind : drop new.end new.buf.now ≡ drop new.end old.buf.now =
+      rw (t.ends, copied, drop-paste old.buf.now old.end text (length text) (omega (arith, t.room)) (omega arith)) in
+      sym (drop-drop k new.end new.buf.now) ∙ ap (drop k) behind ∙ drop-drop k new.end old.buf.now
 
 -- a text, and a second one where it ended
-pub text_then : {buf : List ℕ} {at : ℕ} {s mid : List ℕ} {end : ℕ} {t out : List ℕ} {last : ℕ} → Texted buf at s mid end → Texted mid end t out last
-    → Texted buf at (s ++ t) out last
-text_then {buf} {at} {s} {mid} {end} {t} a b =
-    let long : at + length (s ++ t) ≡ end + length t = omega (arith, length-append s t, a.ends) in
+pub text_then : {old mid new : Text} {s t : List ℕ} → Puts old s mid → Puts mid t new → Puts old (s ++ t) new
+text_then {old} {mid} {s = s} {t = t} a b =
+    let long : old.end + length (s ++ t) ≡ mid.end + length t = omega (arith, length-append s t, a.ends) in
     record {
-      room = omega (arith, b.room, text_long a);
+      room = omega (arith, b.room, a.long);
       ends = b.ends ∙ sym long;
-      bytes = rw (long, b.bytes, text_front a, text_rest a (length t)) (rw (append_assoc (take at buf) s t));
+      bytes = rw (long, b.bytes, text_front a, text_rest a (length t)) (rw (append_assoc (take old.end old.buf.now) s t));
+      long = b.long ∙ a.long;
+      same = b.same ∙ a.same;
     }
 
 -- a text from the start of the buffer on, by another name
-pub text_whole : {buf text out : List ℕ} {end : ℕ} {l : List ℕ} → Texted buf 0 text out end → text ≡ l
-    → (end ≡ length l) × (out ≡ l ++ drop (length l) buf)
-text_whole {buf} {text} t e =
-    rw (← e) (t.ends ∙ zero-add (length text), t.bytes ∙ ap (λ (k : ℕ). text ++ drop k buf) (zero-add (length text)))
+pub text_whole : {old new : Text} {text l : List ℕ} → Puts old text new → old.end ≡ 0 → text ≡ l
+    → (new.end ≡ length l) × (new.buf.now ≡ l ++ drop (length l) old.buf.now)
+text_whole {old} {new} {text} t z e =
+    rw (← e) (rw (z, zero-add (length text)) at t.ends, rw (z, zero-add (length text)) at t.bytes)
 
 -- k bytes fill the front of a buffer
 pub record Front (l : List ℕ) (k : ℕ) (out : List ℕ) : Type 0 where

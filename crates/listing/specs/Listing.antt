@@ -1,14 +1,13 @@
 -- What the program prints for a picture of any bytes. Document 01: "For A it prints exactly four lines ... Candidates rise; "none" prints
 -- `choose none`; a refusal prints only `refused ` and the number. Output numbers are decimal." Assumes nothing.
-use Rattle.std.specs.Prelude.{List, [], ◌∷◌, ◌++◌, map, ℕ, zero, suc}
+use Rattle.std.specs.Prelude.{List, [], ◌∷◌, ◌++◌, map, ℕ, zero, suc, Option}
 use Rattle.lists.specs.Lists.{flat}
 use Rattle.picture.specs.Picture.{Picture, picture_of}
 use Rattle.picture.specs.Faults.{picture_fault}
 use Rattle.network.specs.declared.Cost.{Cost}
 use Rattle.network.specs.Tests.{served_weight}
-use Rattle.evidence.specs.declared.Choice.{Choice}
 use Rattle.evidence.specs.declared.Stated.{Stated}
-use Rattle.evidence.specs.Canonical.{stated_of, weighings, least}
+use Rattle.evidence.specs.Canonical.{stated_of, weighings, least, verdict_of, chosen_block, chosen_loss}
 use Rattle.listing.specs.Decimal.{decimal}
 
 -- ---- the words, byte by byte
@@ -74,8 +73,8 @@ refused_line number = phrase refused_word number ++ line_end
 unfoldable pub plan_lines : Picture → List ℕ
 plan_lines p =
     let ws : List Cost = weighings p in
-    let c : Choice = least ws in
-    served_line (served_weight p) ++ (flat (map (λ w. block_line (stated_of w)) ws) ++ choice_line c.verdict c.block c.loss)
+    let c : Option Cost = least ws in
+    served_line (served_weight p) ++ (flat (map (λ w. block_line (stated_of w)) ws) ++ choice_line (verdict_of c) (chosen_block c) (chosen_loss c))
 
 -- 0 is a plan; any other number is a refusal, of which the number is all that is printed
 unfoldable pub listing_of : ℕ → Picture → List ℕ

@@ -1,12 +1,23 @@
--- Text that is written over a stretch of a buffer. Assumes nothing.
+-- Text that is put into a buffer. Assumes nothing.
 use Rattle.std.specs.Prelude.{List, ◌++◌, ◌≡◌, ℕ, ◌+◌, ◌≤◌, length, take, drop}
+use Rattle.listing.specs.declared.Text.{Text}
+
+-- room for the longest line: three words of six bytes, three numbers of eight digits and the end of the line
+abbrev pub line_max : ℕ
+line_max = 43
 
 -- room for the longest text
 abbrev pub text_max : ℕ
 text_max = 4096
 
--- a text written into a buffer that has room for it, from byte `at` on, up to byte `end`: every other byte stays
-pub record Texted (buf : List ℕ) (at : ℕ) (text out : List ℕ) (end : ℕ) : Type 0 where
-  pub room : at + length text ≤ length buf
-  pub ends : end ≡ at + length text
-  pub bytes : out ≡ take at buf ++ text ++ drop (at + length text) buf
+-- the buffer has room for n bytes more
+abbrev pub HasRoom : Text → ℕ → Type 0
+HasRoom t n = t.end + n ≤ length t.buf.now
+
+-- a text is put where the buffer has room for it, from byte `end` on: every other byte stays, and so does the buffer itself
+pub record Puts (old : Text) (text : List ℕ) (new : Text) : Type 0 where
+  pub room : HasRoom old (length text)
+  pub ends : new.end ≡ old.end + length text
+  pub bytes : new.buf.now ≡ take old.end old.buf.now ++ text ++ drop (old.end + length text) old.buf.now
+  pub long : length new.buf.now ≡ length old.buf.now
+  pub same : new.buf.ghost_name ≡ old.buf.ghost_name

@@ -13,5 +13,6 @@ pub mod Picks
 pub mod Every
 pub mod Growing
 pub mod Scans
+pub mod Chains
 pub mod Alls
 pub mod Zips

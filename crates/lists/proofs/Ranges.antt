@@ -11,7 +11,7 @@ use lib.Dec.{T}
 use lib.ListN.{length, get_or, length-map}
 use lib.Seq.{ext_get_or}
 use Rattle.lists.specs.Lists.{range, any}
-use Rattle.lists.proofs.Tests.{or_T, T-or-l, T-or-r}
+use Rattle.lists.proofs.Tests.{or_T, T-or-l, T-or-r, any_map}
 
 pub length_range : (i k : ℕ) → length (range i k) ≡ k
 unfolding range
@@ -37,6 +37,10 @@ pub range_made : {A : Type 0} (d : A) (f : ℕ → A) (l : List A) → ((i : ℕ
 range_made d f l h =
     let long = length-map (range 0 (length l)) f ∙ length_range 0 (length l) in
     ext_get_or d (map f (range 0 (length l))) l long (λ i s. let m : i < length l = rw long at s in get_d_map_range f d 0 (length l) i m ∙ rw zero-add (h i m))
+
+-- a test of the element at any place of a list is a test of any element
+pub any_places : {A : Type 0} (d : A) (f : A → Bool) (l : List A) → any (λ i. f (get_or l i d)) (range 0 (length l)) ≡ any f l
+any_places d f l = sym (any_map f (λ i. get_or l i d) (range 0 (length l))) ∙ ap (any f) (range_made d (λ i. get_or l i d) l (λ i s. refl))
 
 pub map_shift : {A : Type 0} (f : ℕ → A) (i k : ℕ) → map f (range (suc i) k) ≡ map (λ j. f (suc j)) (range i k)
 unfolding range

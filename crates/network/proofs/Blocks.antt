@@ -11,15 +11,11 @@ use Rattle.picture.specs.Inner.{Read}
 use Rattle.picture.proofs.Facts.{read_picture, read_slots_most, read_slots_length, read_endpoints_length}
 use Rattle.network.specs.Words.{slot_count, endpoint_count, block_count}
 
--- a block below the last ends where the last does or before
-pub block_within : (n size blocks b : ℕ) → b < blocks → blocks * size ≤ n → b * size + size ≤ n
-block_within n size blocks b h l =
-    let e : suc b * size ≤ blocks * size = mul-le-mul_right size h in
-    omega (arith, suc-mul b size)
-
 -- the last slot of a block below n / size is at most n
 pub block_fits : (n size b : ℕ) → b < n / size → b * size + size ≤ n
-block_fits n size b h = block_within n size (n / size) b h (div-mul-le_self n size)
+block_fits n size b h =
+    let e : suc b * size ≤ n / size * size = mul-le-mul_right size h in
+    omega (arith, suc-mul b size, div-mul-le_self n size)
 
 module _ (bs : List ℕ) (h : Header) (r : Read bs h) where
   pub read_block_size : (picture_of bs).block_size ≡ h.block_size

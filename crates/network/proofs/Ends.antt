@@ -1,12 +1,13 @@
 -- The endpoints' weights in an array and the row of the protected ones, once every endpoint is looked at. Assumes nothing.
-use mathlib.Core.Path.{◌≡◌, sym, ap, ◌∙◌, subst}
-use mathlib.Core.Bool.{false}
+use mathlib.Core.Path.{◌≡◌, sym, ap, ◌∙◌}
+use mathlib.Core.Bool.{false, ◌&&◌}
 use mathlib.Core.Logic.{by_cases, ⊎_elim}
 use mathlib.Core.List.{List}
-use Prim.Native.Nat.{ℕ, suc, ◌+◌, ◌≤◌, ◌<◌}
+use Prim.Native.Nat.{ℕ, zero, suc, ◌-◌, ◌≤◌, ◌<◌}
 use native.Mathlib.Omega.{arith}
-use native.Mathlib.Decide.{dec_le, ℕ_discrete}
-use lib.Dec.{T}
+use native.Mathlib.Decide.{ℕ_discrete}
+use borrow.Author.Tests.{lt-ltb}
+use lib.Dec.{ltb}
 use lib.ListN.{length, get_or, set, replicate, length-set, length-replicate}
 use lib.Seq.{get_or-set_same, get_or-set_other}
 use Rattle.lists.proofs.Picks.{item_inside, zeros_at}
@@ -14,71 +15,60 @@ use Rattle.picture.specs.Picture.{Endpoint, Picture, endpoint_of}
 use Rattle.picture.specs.Layout.{endpoints_max}
 use Rattle.network.specs.Words.{weight_of}
 use Rattle.network.specs.Rows.{EndpointsOf}
-use Rattle.network.proofs.Making.{Scanned}
-use Rattle.network.proofs.Slots.{scanned_all}
+use Rattle.network.proofs.Making.{Above}
 
--- the weights of the endpoints from 1 up to c stand in the array, and 0 elsewhere
+-- the weights of the endpoints above c stand in the array, and 0 elsewhere
 pub record Weighing (w : ℕ → ℕ) (weights : List ℕ) (c : ℕ) : Type 0 where
   pub many : length weights ≡ suc endpoints_max
-  pub seen : (u : ℕ) → 1 ≤ u → u < c → get_or weights u 0 ≡ w u
-  pub origin : get_or weights 0 0 ≡ 0
-  pub unseen : (u : ℕ) → c ≤ u → get_or weights u 0 ≡ 0
+  pub seen : (u : ℕ) → c < u → get_or weights u 0 ≡ w u
+  pub unseen : (u : ℕ) → u ≤ c → get_or weights u 0 ≡ 0
 
 module _ (w : ℕ → ℕ) where
-  pub weighing_begun : Weighing w (replicate (suc endpoints_max) 0) 1
-  weighing_begun =
+  pub weighing_begun : (c : ℕ) → ((u : ℕ) → c < u → w u ≡ 0) → Weighing w (replicate (suc endpoints_max) 0) c
+  weighing_begun c h =
       record {
         many = length-replicate {A = ℕ} (suc endpoints_max) 0;
-        seen = λ u l m. absurd (omega arith);
-        origin = zeros_at (suc endpoints_max) 0;
+        seen = λ u l. zeros_at (suc endpoints_max) u ∙ sym (h u l);
         unseen = λ u l. zeros_at (suc endpoints_max) u;
       }
 
-  pub weighing_next : (weights : List ℕ) (c x : ℕ) → 1 ≤ c → c ≤ endpoints_max → Weighing w weights c → x ≡ w c → Weighing w (set weights c x) (c + 1)
+  pub weighing_next : (weights : List ℕ) (c x : ℕ) → 1 ≤ c → c ≤ endpoints_max → Weighing w weights c → x ≡ w c → Weighing w (set weights c x) (c - 1)
   weighing_next weights c x l m r e =
       record {
         many = length-set weights c x ∙ r.many;
         seen =
-            λ u a b.
+            λ u h.
             by_cases
             (ℕ_discrete u c)
             (λ q. ap (λ (k : ℕ). get_or (set weights c x) k 0) q ∙ get_or-set_same weights c x 0 (omega (arith, r.many)) ∙ e ∙ ap w (sym q))
-            (λ n. get_or-set_other weights c u x 0 n ∙ r.seen u a (omega arith));
-        origin = get_or-set_other weights c 0 x 0 (λ q. absurd (omega arith)) ∙ r.origin;
-        unseen = λ u a. get_or-set_other weights c u x 0 (λ q. absurd (omega arith)) ∙ r.unseen u (omega arith);
+            (λ n. get_or-set_other weights c u x 0 n ∙ r.seen u (omega arith));
+        unseen = λ u h. get_or-set_other weights c u x 0 (λ q. absurd (omega arith)) ∙ r.unseen u (omega arith);
       }
 
--- past the endpoints there is no weight, and nothing is protected
+-- what is no endpoint's number has no weight, and is not protected
 pub endpoint_inside : (p : Picture) (c : ℕ) → ¬ ((1 ≤ c) × (c ≤ length p.endpoints)) → endpoint_of p c ≡ record { weight = 0; protected = false }
 unfolding endpoint_of
 endpoint_inside p c n = ⊎_elim (λ i. absurd (n i)) (λ e. e) (item_inside p.endpoints c (record { weight = 0; protected = false }))
 
-pub endpoints_looked : (p : Picture) (weights guarded : List ℕ) (c : ℕ) → length p.endpoints < c → c ≤ length p.endpoints + 1
-    → Weighing (weight_of p) weights c → Scanned (λ u. (endpoint_of p u).protected) guarded c → EndpointsOf p weights guarded
+pub weight_outside : (p : Picture) (c : ℕ) → ¬ ((1 ≤ c) × (c ≤ length p.endpoints)) → weight_of p c ≡ 0
 unfolding weight_of
-endpoints_looked p weights guarded c l m w s =
-    record { many = w.many; weight = weight; protected = scanned_all (λ u. (endpoint_of p u).protected) guarded c s there }
+weight_outside p c n = ap (λ (x : Endpoint). x.weight) (endpoint_inside p c n)
+
+pub protected_outside : (p : Picture) (c : ℕ) → ¬ ((1 ≤ c) × (c ≤ length p.endpoints)) → (endpoint_of p c).protected ≡ false
+protected_outside p c n = ap (λ (x : Endpoint). x.protected) (endpoint_inside p c n)
+
+-- every endpoint was looked at
+pub endpoints_looked : (p : Picture) (weights guarded : List ℕ) (c : ℕ) → c < 1 → Weighing (weight_of p) weights c
+    → Above (λ u. (endpoint_of p u).protected) guarded c → EndpointsOf p weights guarded
+endpoints_looked p weights guarded c z w s = record { many = w.many; weight = weight; protected = λ u. rw none at s.same u ∙ protected u }
   where
-    inside? : (u : ℕ) → Dec ((1 ≤ u) × (u ≤ length p.endpoints))
-    inside? u = by_cases (dec_le 1 u) (λ a. by_cases (dec_le u (length p.endpoints)) (λ b. yes (a, b)) (λ n. no (λ i. n i.1))) (λ n. no (λ i. n i.0))
+    none : c ≡ 0
+    none = omega arith
 
-    out : (u : ℕ) → ¬ ((1 ≤ u) × (u ≤ length p.endpoints)) → (endpoint_of p u).weight ≡ 0
-    out u n = ap (λ (x : Endpoint). x.weight) (endpoint_inside p u n)
+    weight : (u : ℕ) → get_or weights u 0 ≡ weight_of p u
+    weight zero = w.unseen 0 (omega arith) ∙ sym (weight_outside p 0 (λ i. absurd (omega (arith, i.0))))
+    weight (suc i) = w.seen (suc i) (omega arith)
 
-    weight : (u : ℕ) → get_or weights u 0 ≡ (endpoint_of p u).weight
-    weight u =
-        by_cases
-        (inside? u)
-        (λ i. w.seen u i.0 (omega (arith, i.1)))
-        (λ n.
-        by_cases
-        (ℕ_discrete u 0)
-        (λ z. ap (λ (k : ℕ). get_or weights k 0) z ∙ w.origin ∙ sym (out u n))
-        (λ z. by_cases (dec_le c u) (λ h. w.unseen u h ∙ sym (out u n)) (λ h. absurd (n (omega arith, omega arith)))))
-
-    there : (u : ℕ) → T (endpoint_of p u).protected → (1 ≤ u) × (u < c)
-    there u t =
-        by_cases
-        (inside? u)
-        (λ i. (i.0, omega (arith, i.1)))
-        (λ n. absurd (subst (λ (x : Endpoint). T x.protected) (endpoint_inside p u n) t))
+    protected : (u : ℕ) → (ltb 0 u && (endpoint_of p u).protected) ≡ (endpoint_of p u).protected
+    protected zero = simp (protected_outside p 0 (λ i. absurd (omega (arith, i.0))))
+    protected (suc i) = rw (lt-ltb 0 (suc i) (omega arith))

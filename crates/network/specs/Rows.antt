@@ -1,12 +1,12 @@
 -- A picture's network as rows of marks: what the functions that make them give. Inner: nothing here is promised. Assumes nothing.
-use Rattle.std.specs.Prelude.{Bool, true, false, List, ◌≡◌, ℕ, suc, ◌+◌, ◌*◌, length, get_or}
+use Rattle.std.specs.Prelude.{Bool, false, List, ◌≡◌, ℕ, suc, ◌+◌, ◌*◌, length, get_or, replicate}
 use Rattle.lists.specs.Lists.{range, any, filter}
 use Rattle.rows.specs.declared.Range.{Range}
 use Rattle.rows.specs.Rows.{marked, linked_in, locations_max}
 use Rattle.graph.specs.Held.{held_in, SlotsOnly}
-use Rattle.picture.specs.declared.Header.{Header}
 use Rattle.picture.specs.Picture.{Picture, endpoint_of}
 use Rattle.picture.specs.Layout.{endpoints_max}
+use Rattle.network.specs.declared.Tables.{Tables}
 use Rattle.network.specs.Words.{slot_count, is_held, joins, weight_of}
 use Rattle.network.specs.Tests.{is_near_held}
 
@@ -20,21 +20,6 @@ pub record RowsOf (k : ℕ) (f : ℕ → ℕ → Bool) (table : List (List ℕ))
   pub many : length table ≡ k
   pub same : (a b : ℕ) → linked_in table a b ≡ f a b
 
--- how many links the header says there are, or (true) service links
-abbrev pub count_of : Bool → Header → ℕ
-count_of false h = h.links
-count_of true h = h.service_links
-
--- the rows of the links, one for each location, or (true) those of the service links, one for each endpoint by its number, and for 0
-abbrev pub rows_for : Bool → ℕ
-rows_for false = locations_max
-rows_for true = suc endpoints_max
-
--- what the rows of the links mark, each from its location, or (true) those of the service links, each from its endpoint
-abbrev pub table_of : Bool → Picture → ℕ → ℕ → Bool
-table_of false p = joins p.links
-table_of true p = λ c a. joins p.service_links a c
-
 -- the rows of the held slots and of the held near slots
 pub record SlotRowsOf (p : Picture) (holding nearby : List ℕ) : Type 0 where
   pub slots : SlotsOnly (slot_count p) holding
@@ -46,6 +31,18 @@ pub record EndpointsOf (p : Picture) (weights guarded : List ℕ) : Type 0 where
   pub many : length weights ≡ suc endpoints_max
   pub weight : (c : ℕ) → get_or weights c 0 ≡ weight_of p c
   pub protected : (c : ℕ) → marked guarded c ≡ (endpoint_of p c).protected
+
+-- tables of nothing
+pub record Empty (t : Tables) : Type 0 where
+  pub links : Clear locations_max t.links
+  pub services : Clear (suc endpoints_max) t.services
+  pub weights : t.weights ≡ replicate (suc endpoints_max) 0
+
+-- the tables of a picture
+pub record TablesOf (p : Picture) (t : Tables) : Type 0 where
+  pub links : RowsOf locations_max (joins p.links) t.links
+  pub services : RowsOf (suc endpoints_max) (λ c a. joins p.service_links a c) t.services
+  pub ends : EndpointsOf p t.weights t.protected
 
 -- the slots of a block by their numbers: b times the block size plus 1 to b times the block size plus the block size
 abbrev pub block_range : ℕ → ℕ → Range

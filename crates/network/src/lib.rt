@@ -4,12 +4,11 @@
 ghost use Rattle.std.specs.Prelude.{◌≡◌, suc, ◌+◌, ◌*◌, ◌≤◌, replicate};
 ghost use Rattle.rows.specs.Rows.{slots_max, locations_max};
 ghost use Rattle.picture.specs.Layout.{endpoints_max};
-ghost use Rattle.picture.specs.Picture.{picture_of};
-ghost use Rattle.picture.specs.Inner.{Read};
+ghost use Rattle.picture.specs.Picture.{header_of, picture_of};
 ghost use Rattle.network.specs.Words.{joins, is_held};
-ghost use Rattle.network.specs.Rows.{Clear, RowsOf, count_of, rows_for, table_of, SlotRowsOf, block_range, block_marked, EndpointsOf};
+ghost use Rattle.network.specs.Rows.{Clear, RowsOf, SlotRowsOf, block_range, block_marked, EndpointsOf, Empty, TablesOf};
 
-use picture::{ENDPOINTS_MAX, HELD, Header};
+use picture::{ENDPOINTS_MAX, Picture, State};
 use rows::{LOCATIONS, Range, WORDS};
 
 // A place for each endpoint by its number, and for 0.
@@ -22,74 +21,75 @@ pub struct SlotRows {
     pub near: [u64; WORDS],
 }
 
+// What a picture's blocks are weighed by: its links and service links, the weights of its endpoints, and the protected ones.
+#[derive(Drop)]
+pub struct Tables {
+    pub links: [[u64; WORDS]; LOCATIONS],
+    pub services: [[u64; WORDS]; ENDPOINTS],
+    pub weights: [u32; ENDPOINTS],
+    pub protected: [u64; WORDS],
+}
+
 // What giving up a block costs: the weight that is lost, how many endpoints are cut, and the mark (1 if a protected one is, else 0).
 #[derive(Clone, Copy)]
 pub struct Cost {
     pub block: usize,
     pub loss: usize,
     pub cuts: usize,
+    // Kept: a number, 1 or 0, as evidence has it: of a bool each use would make that number again.
     pub mark: usize,
 }
 
-// Marks in a clear table the links, or the service links; `count` says how many these are.
-fn mark_rows(s: &[u8], h: Header, count: usize, services: bool, table: &mut [[u64; WORDS]])
-    requires { Read s.now h × (count ≡ count_of services h) × Clear (rows_for services) table.old }
-    ensures { RowsOf (rows_for services) (table_of services (picture_of s.now)) table.new }
+// Marks the links in a clear table: row a marks b where a link leads from a to b.
+// Kept: this loop and the next are alike but for the list and the end that has the row; one over both would take a closure for each.
+pub fn link_rows(p: &Picture, table: &mut [[u64; WORDS]; LOCATIONS])
+    requires { Clear locations_max table.old }
+    ensures { RowsOf locations_max (joins (picture_of p.now).links) table.new }
 {
-    let mut i: usize = 0;
-    while i < count {
-        if services {
-            let l = picture::nth_service_link(s, h, h.edition.location_bits, i);
-            rows::mark(table, l.to, l.from);
-        } else {
-            let l = picture::nth_link(s, h, h.edition.location_bits, i);
-            rows::mark(table, l.from, l.to);
-        }
-        i += 1;
+    let s = p.bytes();
+    let h = p.header();
+    for i in 0..h.links {
+        let l = picture::nth_link(s, h, h.edition.location_bits, i);
+        rows::mark(table, l.from, l.to);
     }
 }
 
-// Marks the links in a clear table: row a marks b where a link leads from a to b.
-pub fn link_rows(s: &[u8], h: Header, table: &mut [[u64; WORDS]; LOCATIONS])
-    requires { Read s.now h × Clear locations_max table.old }
-    ensures { RowsOf locations_max (joins (picture_of s.now).links) table.new }
-{
-    mark_rows(s, h, h.links, false, table);
-}
-
 // Marks the service links in a clear table: row c marks each location that serves endpoint c.
-pub fn service_link_rows(s: &[u8], h: Header, table: &mut [[u64; WORDS]; ENDPOINTS])
-    requires { Read s.now h × Clear (suc endpoints_max) table.old }
-    ensures { RowsOf (suc endpoints_max) (λ c a. joins (picture_of s.now).service_links a c) table.new }
+pub fn service_link_rows(p: &Picture, table: &mut [[u64; WORDS]; ENDPOINTS])
+    requires { Clear (suc endpoints_max) table.old }
+    ensures { RowsOf (suc endpoints_max) (λ c a. joins (picture_of p.now).service_links a c) table.new }
 {
-    mark_rows(s, h, h.service_links, true, table);
+    let s = p.bytes();
+    let h = p.header();
+    for i in 0..h.service_links {
+        let l = picture::nth_service_link(s, h, h.edition.location_bits, i);
+        rows::mark(table, l.to, l.from);
+    }
 }
 
 // Whether slot v is held.
-fn is_held(s: &[u8], h: Header, v: usize) -> bool
-    requires { Read s.now h × (1 ≤ v) × (v ≤ h.slots) }
-    ensures { result ≡ is_held (picture_of s.now) v }
+fn is_held(p: &Picture, v: usize) -> bool
+    requires { (1 ≤ v) × (v ≤ (header_of p.now).slots) }
+    ensures { result ≡ is_held (picture_of p.now) v }
 {
-    picture::slot_state(s, h, v) == HELD
+    p.slot_state(v) == State::Held
 }
 
 // The held slots and the held near slots.
-pub fn slot_rows(s: &[u8], h: Header) -> SlotRows
-    requires { Read s.now h }
-    ensures { SlotRowsOf (picture_of s.now) result.held result.near }
+pub fn slot_rows(p: &Picture) -> SlotRows
+    ensures { SlotRowsOf (picture_of p.now) result.held result.near }
 {
-    let n = h.slots;
+    let n = p.header().slots;
     let mut held = [0u64; WORDS];
     let mut near = [0u64; WORDS];
-    let mut v: usize = 1;
-    while v <= n {
-        if is_held(s, h, v) {
+    // Down to the first: so the loop has one count to keep.
+    for v in (1..=n).rev() {
+        if is_held(p, v) {
             rows::add(&mut held, v);
-            if picture::slot_near(s, h, v) {
+            if p.is_near(v) {
                 rows::add(&mut near, v);
             }
         }
-        v += 1;
     }
     SlotRows { held, near }
 }
@@ -115,21 +115,44 @@ pub fn is_candidate(near: &[u64; WORDS], size: usize, b: usize) -> bool
 }
 
 // Writes the endpoints' weights into an array of zeros, and gives the row of the protected ones.
-pub fn endpoint_rows(s: &[u8], h: Header, weights: &mut [u32; ENDPOINTS]) -> [u64; WORDS]
-    requires { Read s.now h × (weights.old ≡ replicate (suc endpoints_max) 0) }
-    ensures { EndpointsOf (picture_of s.now) weights.new result }
+pub fn endpoint_rows(p: &Picture, weights: &mut [u32; ENDPOINTS]) -> [u64; WORDS]
+    requires { weights.old ≡ replicate (suc endpoints_max) 0 }
+    ensures { EndpointsOf (picture_of p.now) weights.new result }
 {
-    let d = h.endpoints;
     let mut protected = [0u64; WORDS];
-    let mut c: usize = 1;
-    while c <= d {
-        let weight = picture::endpoint_weight(s, h, c);
-        let guarded = picture::endpoint_protected(s, h, c);
+    // Down to the first, as the slots.
+    for c in (1..=p.header().endpoints).rev() {
+        let weight = p.endpoint_weight(c);
+        let guarded = p.is_protected(c);
+        // Kept: `weight` is proved to fit, and try_from asks for an error that cannot be.
         weights[c] = weight as u32;
         if guarded {
             rows::add(&mut protected, c);
         }
-        c += 1;
     }
     protected
+}
+
+impl Tables {
+    // Tables of nothing, to be filled where they lie: they are too large to be handed on.
+    pub fn empty() -> Self
+        ensures { Empty result }
+    {
+        Tables {
+            links: [[0; WORDS]; LOCATIONS],
+            services: [[0; WORDS]; ENDPOINTS],
+            weights: [0; ENDPOINTS],
+            protected: [0; WORDS],
+        }
+    }
+
+    // Empty tables become a picture's.
+    pub fn fill(&mut self, p: &Picture)
+        requires { Empty self.old }
+        ensures { TablesOf (picture_of p.now) self.new }
+    {
+        link_rows(p, &mut self.links);
+        service_link_rows(p, &mut self.services);
+        self.protected = endpoint_rows(p, &mut self.weights);
+    }
 }

@@ -1,6 +1,7 @@
 -- What is true of both editions. Assumes nothing.
 use mathlib.Core.Path.{◌≡◌, refl}
 use mathlib.Core.Bool.{Bool, true, false, cond}
+use mathlib.Core.Logic.{◌≢◌}
 use Prim.Native.Nat.{ℕ, ◌*◌, ◌^◌, ◌≤◌, ◌<◌}
 use native.Mathlib.Omega.{arith}
 use lib.Dec.{eqb}
@@ -23,6 +24,11 @@ pub known_number : {e : Edition} → Known e → edition_for e.number ≡ e
 unfolding edition_for
 known_number Known.first = refl
 known_number Known.second = refl
+
+-- a location that has not the width of the first has that of the second
+pub wide_or : (e : Edition) → Known e → e.location_bits ≢ edition1.location_bits → edition2.location_bits ≡ e.location_bits
+wide_or _ Known.first n = absurd (n refl)
+wide_or _ Known.second n = refl
 
 -- no edition is wider than the second; n fits the width of a location, and its own number and β four bits; the header has whole bytes
 pub record Widths (e : Edition) : Type 0 where

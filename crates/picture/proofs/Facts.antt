@@ -4,8 +4,8 @@ use mathlib.Core.List.{List}
 use Prim.Native.Nat.{ℕ, ◌≤◌}
 use lib.ListN.{length}
 use Rattle.picture.specs.declared.Header.{Header}
-use Rattle.picture.specs.Layout.{edition2, edition_of}
-use Rattle.picture.specs.Picture.{Picture, header_in, header_of, picture_of, picture_with}
+use Rattle.picture.specs.Layout.{edition2, edition_of, state_max}
+use Rattle.picture.specs.Picture.{Picture, header_in, header_of, picture_of, picture_with, slot_of}
 use Rattle.picture.specs.Rules.{Sizes, Counts, Links}
 use Rattle.picture.specs.Inner.{Read, Known, Limited}
 use Rattle.picture.proofs.Editions.{known_for}
@@ -56,3 +56,16 @@ module _ (bs : List ℕ) (h : Header) (r : Read bs h) where
 
   pub read_services_length : length (picture_of bs).service_links ≡ h.service_links
   read_services_length = ap (λ (p : Picture). length p.service_links) (sym read_picture) ∙ services_length h bs
+
+  -- and each slot has one of the three states
+  pub read_state_most : (v : ℕ) → 1 ≤ v → v ≤ h.slots → (slot_of (picture_with h bs) v).state ≤ state_max
+  read_state_most v l m =
+      subst (λ (p : Picture). (slot_of p v).state ≤ state_max) (sym read_picture)
+      ((accepted_kept bs r.accepted).states.state v l (subst (λ (k : Header). v ≤ k.slots) r.header m))
+
+  -- a slot's number and an endpoint's are numbers in range
+  pub read_slot : (v : ℕ) → (1 ≤ v) × (v ≤ (header_of bs).slots) → Limited h × (1 ≤ v) × (v ≤ h.slots)
+  read_slot v w = (read_limited, w.0, rw r.header w.1)
+
+  pub read_endpoint : (c : ℕ) → (1 ≤ c) × (c ≤ (header_of bs).endpoints) → Limited h × (1 ≤ c) × (c ≤ h.endpoints)
+  read_endpoint c w = (read_limited, w.0, rw r.header w.1)

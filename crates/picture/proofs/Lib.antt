@@ -3,6 +3,8 @@ pub mod Editions
 pub mod Starts
 pub mod Fields
 pub mod Finding
+pub mod Refusing
+pub mod States
 pub mod Judging
 pub mod Kept
 pub mod Accepted

@@ -11,12 +11,14 @@ use lib.ListN.{length}
 use borrow.Author.Tests.{lt-leb, le-leb, eq-eqb, ne_eqb}
 use Rattle.lists.specs.Lists.{on, first}
 use Rattle.picture.specs.declared.Edition.{Edition}
+use Rattle.std.specs.Prelude.{Result}
 use Rattle.picture.specs.declared.Header.{Header}
-use Rattle.picture.specs.declared.Reading.{Reading}
+use Rattle.picture.specs.declared.refusals.Refusal.{Refusal}
 use Rattle.picture.specs.Layout.{block_size_max, edition1, edition1_up_to, edition2, edition_for, edition_number, header_widths, link_widths, service_link_widths, least_bytes, slots_at, header_bytes, endpoints_at, links_at, service_links_at, end_at, size_of}
 use Rattle.picture.specs.Picture.{header_in, picture_with}
 use Rattle.picture.specs.Faults.{sizes_right, counts_right, end_right, list_faults, body_faults, faults_with, fault_in}
-use Rattle.picture.specs.Answers.{reading_of, reading_in, reading, header_values, reading_numbers}
+use Rattle.picture.specs.Refusals.{refusal_of, answer_of, answer_numbers}
+use Rattle.picture.specs.Answers.{reading_in, reading, header_values}
 use Rattle.picture.specs.Raised.{answer_in, picture_in, Raised, Joined}
 
 -- ---- a raised limit
@@ -94,18 +96,18 @@ module _ (bs : List ℕ) where
 
     -- the answer by the number of the first fault: its values have nothing to do with the limit
     abbrev by_number : ℕ → List ℕ
-    by_number k = reading_numbers (reading_of k (header_in edition1 bs))
+    by_number k = answer_numbers header_values (answer_of k (header_in edition1 bs))
 
     answered : answer_in old bs ≡ by_number (fault_in old bs)
-    unfolding reading_of reading_numbers header_values header_in header_widths
+    unfolding answer_of answer_numbers header_values header_in header_widths
     answered = go (fault_in old bs)
       where
-        go : (k : ℕ) → reading_numbers (reading_of k (header m)) ≡ by_number k
+        go : (k : ℕ) → answer_numbers header_values (answer_of k (header m)) ≡ by_number k
         go zero = refl
         go (suc k) = refl
 
     pub raised : Raised m bs
-    unfolding reading_of reading_numbers
+    unfolding answer_of answer_numbers refusal_of
     raised =
         record {
           accepted = λ z. ⊎_elim (λ e. answered ∙ ap by_number e) (λ r. absurd (omega (arith, z, r.0))) fault;
@@ -129,7 +131,7 @@ pub joined : (bs : List ℕ) → Joined bs
 unfolding reading edition_for faults_with header_in
 joined bs = record { other = λ n. ap by_edition (ap pick (ne_eqb _ _ n)); second = λ e. ap by_edition (ap pick (eq-eqb _ _ e)); refused = refused }
   where
-    by_edition : Edition → Reading
+    by_edition : Edition → Result Header Refusal
     by_edition e = reading_in e bs
 
     pick : Bool → Edition

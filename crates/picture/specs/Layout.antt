@@ -4,6 +4,8 @@ use Rattle.bits.specs.Bits.{field_at}
 use Rattle.lists.specs.Lists.{sum}
 use Rattle.picture.specs.declared.Edition.{Edition}
 use Rattle.picture.specs.declared.Header.{Header}
+use Rattle.picture.specs.declared.State.{State}
+use Rattle.picture.specs.declared.State.TheVariants.{Held, Recoverable, Freed}
 
 -- ---- editions: the number; the width of n, of κ and of a location; the largest β and the largest n
 
@@ -85,6 +87,11 @@ abbrev pub picture_max : ℕ
 picture_max = 11553
 
 -- a state is 0 (held), 1 (recoverable) or 2 (freed)
+abbrev pub state_number : State → ℕ
+state_number Held = 0
+state_number Recoverable = 1
+state_number Freed = 2
+
 abbrev pub state_max : ℕ
 state_max = 2
 

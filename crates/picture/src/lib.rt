@@ -4,14 +4,19 @@
 ghost use Rattle.std.specs.Prelude.{◌≡◌, [], ◌∷◌, map, ◌+◌, ◌-◌, ◌*◌, ◌≤◌, ◌<◌, length, get_or, take, drop};
 ghost use Rattle.bits.specs.Bits.{put_field};
 ghost use Rattle.lists.specs.Lists.{first, sum, outcome};
-ghost use Rattle.picture.specs.Layout.{edition_for, header_widths, state_bits, slot_widths, slots_at, size_of};
+ghost use Rattle.picture.specs.Layout.{state_number, state_max, edition_for, header_widths, state_bits, slot_widths, slots_at, size_of};
 ghost use Rattle.picture.specs.Picture.{header_in, header_of, link_at, picture_with, slot_of, endpoint_of};
 ghost use Rattle.picture.specs.Faults.{sizes_right, counts_right, state_fault, link_fault, service_link_fault, end_right, body_faults, faults_with, picture_fault};
+ghost use Rattle.picture.specs.Refusals.{fault_of};
 ghost use Rattle.picture.specs.Answers.{reading, header_values, reading_numbers};
 ghost use Rattle.picture.specs.Rules.{no_link};
-ghost use Rattle.picture.specs.Inner.{Known, Limited, places_of};
+ghost use Rattle.picture.specs.Inner.{StateOf, Known, Limited, places_of};
 
+pub mod reading;
 pub mod refusals;
+
+pub use reading::Picture;
+pub use refusals::Refusal;
 
 // Widths in bits, in the order of the fields.
 pub const EDITION_BITS: usize = 4;
@@ -80,16 +85,45 @@ pub const PICTURE_MAX: usize = (SLOT_COUNT_AT
     + 7)
     / 8;
 
-// States of a slot.
-pub const HELD: usize = 0;
+// The state of a slot.
+#[derive(Clone, Copy, Debug, PartialEq, Eq)]
+pub enum State {
+    Held,
+    Recoverable,
+    Freed,
+}
 
-pub const RECOVERABLE: usize = 1;
+impl State {
+    // The number that stands for it in a picture.
+    pub fn number(self) -> usize
+        ensures { result ≡ state_number self }
+    {
+        match self {
+            State::Held => 0,
+            State::Recoverable => 1,
+            State::Freed => 2,
+        }
+    }
+}
 
-pub const FREED: usize = 2;
+impl TryFrom<usize> for State {
+    type Error = Refusal;
 
-const STATE_MAX: usize = FREED;
+    ghost try_from_gives = { StateOf };
+
+    #[tactic(auto, unfolding(crate::specs::Faults::state_fault, lists::specs::Lists::on))]
+    fn try_from(number: usize) -> Result<Self, Refusal> {
+        match number {
+            0 => Ok(State::Held),
+            1 => Ok(State::Recoverable),
+            2 => Ok(State::Freed),
+            _ => Err(Refusal::State),
+        }
+    }
+}
 
 // An edition: its number; the width of n, of κ and of a location; the largest β and the largest n.
+// Kept: a record of numbers and not an enum, and `Known` a fact of its own, since definitions and laws go over any edition by its widths.
 #[derive(Clone, Copy)]
 pub struct Edition {
     pub number: usize,
@@ -99,6 +133,7 @@ pub struct Edition {
 }
 
 // The header's numbers: its edition's, β, n, κ, D, L and S.
+// Kept: no invariant says that they keep their limits, since a header is a value before it is judged, and is refused by these numbers.
 #[derive(Clone, Copy)]
 pub struct Header {
     pub edition: Edition,
@@ -124,13 +159,6 @@ pub struct Places {
 pub struct Link {
     pub from: usize,
     pub to: usize,
-}
-
-// What reading a picture answers.
-#[derive(Clone, Copy)]
-pub enum Reading {
-    Accepted(Header),
-    Refused(u8),
 }
 
 // The edition of a number: for any that is none, the first.
@@ -195,43 +223,26 @@ fn header_of(s: &[u8]) -> Header
 }
 
 // β and n keep their limits, and n is a multiple of β.
+#[tactic(auto, unfolding(crate::specs::Faults::sizes_right))]
 pub fn sizes_right(h: Header) -> bool
     ensures { result ≡ sizes_right h }
 {
     let size = h.block_size;
     let n = h.slots;
-    if size < 1 {
-        return false;
-    }
-    if h.edition.block_size_max < size {
-        return false;
-    }
-    if n < 1 {
-        return false;
-    }
-    if h.edition.slots_max < n {
-        return false;
-    }
-    if n % size != 0 {
-        return false;
-    }
-    n / size <= BLOCKS_MAX
+    1 <= size
+        && size <= h.edition.block_size_max
+        && 1 <= n
+        && n <= h.edition.slots_max
+        && n % size == 0
+        && n / size <= BLOCKS_MAX
 }
 
 // D, L and S keep their limits.
+#[tactic(auto, unfolding(crate::specs::Faults::counts_right))]
 pub fn counts_right(h: Header) -> bool
     ensures { result ≡ counts_right h }
 {
-    let endpoints = h.endpoints;
-    let links = h.links;
-    let service_links = h.service_links;
-    if ENDPOINTS_MAX < endpoints {
-        return false;
-    }
-    if LINKS_MAX < links {
-        return false;
-    }
-    service_links <= LINKS_MAX
+    h.endpoints <= ENDPOINTS_MAX && h.links <= LINKS_MAX && h.service_links <= LINKS_MAX
 }
 
 // Where the parts after the slots start, and where the last field ends.
@@ -268,7 +279,7 @@ fn slot_at(h: Header, v: usize) -> usize
     slots_at(h.edition) + (v - 1) * SLOT_ROW
 }
 
-// The state of slot v.
+// The number of the state of slot v, whatever it is.
 pub fn slot_state(s: &[u8], h: Header, v: usize) -> usize
     requires { Limited h × (1 ≤ v) × (v ≤ h.slots) }
     ensures { result ≡ (slot_of (picture_with h s.now) v).state }
@@ -276,7 +287,15 @@ pub fn slot_state(s: &[u8], h: Header, v: usize) -> usize
     bits::field(s, slot_at(h, v), STATE_BITS)
 }
 
-// The state of slot v becomes this one: its two bits only.
+// The state of slot v, where it is one of the three, as in every accepted picture.
+pub fn state_of(s: &[u8], h: Header, v: usize) -> State
+    requires { Limited h × (1 ≤ v) × (v ≤ h.slots) × ((slot_of (picture_with h s.now) v).state ≤ state_max) }
+    ensures { state_number result ≡ (slot_of (picture_with h s.now) v).state }
+{
+    State::try_from(slot_state(s, h, v)).unwrap()
+}
+
+// The state of slot v becomes this number: its two bits only.
 pub fn put_state(s: &mut [u8], h: Header, v: usize, state: usize)
     requires { Limited h × (1 ≤ v) × (v ≤ h.slots) × (size_of h ≤ length s.old) }
     ensures { s.new ≡ put_field s.old (slots_at h.edition + (v - 1) * sum slot_widths) state_bits state }
@@ -328,7 +347,7 @@ fn link_at(s: &[u8], p: usize, from_bits: usize, to_bits: usize) -> Link
     }
 }
 
-// Link i, counted from 0. The width w of a location is the edition's, as a number of its own: see `links_fault`.
+// Link i, counted from 0. The width w of a location is the edition's, as a number of its own: see `judge_links`.
 pub fn nth_link(s: &[u8], h: Header, w: usize, i: usize) -> Link
     requires { Limited h × (w ≡ h.edition.location_bits) × (i < h.links) }
     ensures { result ≡ get_or (picture_with h s.now).links i no_link }
@@ -349,123 +368,63 @@ pub fn nth_service_link(s: &[u8], h: Header, w: usize, i: usize) -> Link
     )
 }
 
-// The fault of one slot's state.
-pub fn state_fault(state: usize) -> u8
-    ensures { result ≡ state_fault state }
-{
-    if STATE_MAX < state {
-        return refusals::STATE;
-    }
-    0
-}
-
-// The fault of the first slot without one of the three states.
-fn states_fault(s: &[u8], h: Header) -> u8
+// Each slot has one of the three states.
+// Kept: this loop and the two for links are alike but for what they read; one over any judgement would take its law and two closures each.
+fn judge_states(s: &[u8], h: Header) -> Result<(), Refusal>
     requires { Limited h }
-    ensures { result ≡ first (map (λ q. state_fault q.state) (picture_with h s.now).slots) }
+    ensures { fault_of result ≡ first (map (λ q. state_fault q.state) (picture_with h s.now).slots) }
 {
-    let n = h.slots;
-    let mut i: usize = 0;
-    while i < n {
-        let fault = state_fault(slot_state(s, h, i + 1));
-        if fault != 0 {
-            return fault;
-        }
-        i += 1;
+    for i in 0..h.slots {
+        State::try_from(slot_state(s, h, i + 1))?;
     }
-    0
+    Ok(())
 }
 
-// The fault of one link.
-pub fn link_fault(l: Link, n: usize) -> u8
-    ensures { result ≡ link_fault n l }
+// A link leads from a location that is there to another.
+#[tactic(auto, unfolding(crate::specs::Faults::link_fault, lists::specs::Lists::on))]
+pub fn judge_link(l: Link, n: usize) -> Result<(), Refusal>
+    ensures { fault_of result ≡ link_fault n l }
 {
-    let from = l.from;
-    let to = l.to;
-    if n < from {
-        return refusals::LINK;
+    if n < l.from || n < l.to {
+        return Err(Refusal::Link);
     }
-    if n < to {
-        return refusals::LINK;
-    }
-    0
+    Ok(())
 }
 
-// The fault of the first link that names what is not there, by the width of a location.
-fn links_fault_by(s: &[u8], h: Header, w: usize) -> u8
-    requires { Limited h × (w ≡ h.edition.location_bits) }
-    ensures { result ≡ first (map (link_fault h.slots) (picture_with h s.now).links) }
+// Each link does, where W is the width of a location: it is told as a constant, so that the loop is compiled for each edition by itself.
+fn judge_links<const W: usize>(s: &[u8], h: Header) -> Result<(), Refusal>
+    requires { Limited h × (W ≡ h.edition.location_bits) }
+    ensures { fault_of result ≡ first (map (link_fault h.slots) (picture_with h s.now).links) }
 {
-    let count = h.links;
-    let mut i: usize = 0;
-    while i < count {
-        let fault = link_fault(nth_link(s, h, w, i), h.slots);
-        if fault != 0 {
-            return fault;
-        }
-        i += 1;
+    for i in 0..h.links {
+        judge_link(nth_link(s, h, W, i), h.slots)?;
     }
-    0
+    Ok(())
 }
 
-// The same. The width of edition 1 is told as the constant that it is: the loop is then compiled for it by itself.
-fn links_fault(s: &[u8], h: Header) -> u8
-    requires { Limited h }
-    ensures { result ≡ first (map (link_fault h.slots) (picture_with h s.now).links) }
-{
-    let w = h.edition.location_bits;
-    if w == LOCATION_BITS {
-        return links_fault_by(s, h, LOCATION_BITS);
-    }
-    links_fault_by(s, h, w)
-}
-
-// The fault of one service link: its location's before its endpoint's.
+// A service link leads from a location that is there to an endpoint that is: the location is judged before the endpoint.
 #[tactic(auto, unfolding(crate::specs::Faults::service_link_fault, lists::specs::Lists::on, lists::specs::Lists::first))]
-pub fn service_link_fault(l: Link, n: usize, d: usize) -> u8
-    ensures { result ≡ service_link_fault n d l }
+pub fn judge_service_link(l: Link, n: usize, d: usize) -> Result<(), Refusal>
+    ensures { fault_of result ≡ service_link_fault n d l }
 {
-    let location = l.from;
-    let endpoint = l.to;
-    if n < location {
-        return refusals::SERVICE_LOCATION;
+    if n < l.from {
+        return Err(Refusal::ServiceLocation);
     }
-    if endpoint == 0 {
-        return refusals::SERVICE_ENDPOINT;
+    if l.to == 0 || d < l.to {
+        return Err(Refusal::ServiceEndpoint);
     }
-    if d < endpoint {
-        return refusals::SERVICE_ENDPOINT;
-    }
-    0
+    Ok(())
 }
 
-// The fault of the first service link that has one, by the width of a location.
-fn service_links_fault_by(s: &[u8], h: Header, w: usize) -> u8
-    requires { Limited h × (w ≡ h.edition.location_bits) }
-    ensures { result ≡ first (map (service_link_fault h.slots h.endpoints) (picture_with h s.now).service_links) }
+// Each service link does, with the width told as for the links.
+fn judge_service_links<const W: usize>(s: &[u8], h: Header) -> Result<(), Refusal>
+    requires { Limited h × (W ≡ h.edition.location_bits) }
+    ensures { fault_of result ≡ first (map (service_link_fault h.slots h.endpoints) (picture_with h s.now).service_links) }
 {
-    let count = h.service_links;
-    let mut i: usize = 0;
-    while i < count {
-        let fault = service_link_fault(nth_service_link(s, h, w, i), h.slots, h.endpoints);
-        if fault != 0 {
-            return fault;
-        }
-        i += 1;
+    for i in 0..h.service_links {
+        judge_service_link(nth_service_link(s, h, W, i), h.slots, h.endpoints)?;
     }
-    0
-}
-
-// The same, with the width told as `links_fault` tells it.
-fn service_links_fault(s: &[u8], h: Header) -> u8
-    requires { Limited h }
-    ensures { result ≡ first (map (service_link_fault h.slots h.endpoints) (picture_with h s.now).service_links) }
-{
-    let w = h.edition.location_bits;
-    if w == LOCATION_BITS {
-        return service_links_fault_by(s, h, LOCATION_BITS);
-    }
-    service_links_fault_by(s, h, w)
+    Ok(())
 }
 
 // Zero bits up to the byte, then the end.
@@ -475,80 +434,65 @@ fn end_right(s: &[u8], h: Header) -> bool
 {
     let size = size_of(h);
     let end = find_places(h).end;
-    if bits::field(s, end, size * 8 - end) != 0 {
-        return false;
-    }
-    s.len() == size
+    bits::field(s, end, size * 8 - end) == 0 && s.len() == size
 }
 
-// The first fault of the parts after the header, in bytes that are long enough for them, or 0.
-fn body_fault(s: &[u8], h: Header) -> u8
-    requires { Limited h }
-    ensures { result ≡ first (body_faults h (picture_with h s.now) s.now) }
+// The parts after the header, in bytes that are long enough for them.
+fn judge_body<const W: usize>(s: &[u8], h: Header) -> Result<(), Refusal>
+    requires { Limited h × (W ≡ h.edition.location_bits) }
+    ensures { fault_of result ≡ first (body_faults h (picture_with h s.now) s.now) }
 {
-    let state = states_fault(s, h);
-    if state != 0 {
-        return state;
+    judge_states(s, h)?;
+    judge_links::<W>(s, h)?;
+    judge_service_links::<W>(s, h)?;
+    if !end_right(s, h) {
+        return Err(Refusal::Fill);
     }
-    let link = links_fault(s, h);
-    if link != 0 {
-        return link;
-    }
-    let service = service_links_fault(s, h);
-    if service != 0 {
-        return service;
-    }
-    if end_right(s, h) {
-        return 0;
-    }
-    refusals::FILL
+    Ok(())
 }
 
-// The first fault behind the edition's, or 0: the sizes and counts of the header, and then the parts.
-fn header_fault(s: &[u8], h: Header) -> u8
+// What follows the edition: the sizes and counts of the header, and then the parts.
+fn judge_sizes(s: &[u8], h: Header) -> Result<(), Refusal>
     requires { Known h.edition }
-    ensures { result ≡ first (drop 3 (faults_with h (picture_with h s.now) s.now)) }
+    ensures { fault_of result ≡ first (drop 3 (faults_with h (picture_with h s.now) s.now)) }
 {
-    let sizes = sizes_right(h);
-    if !sizes {
-        return refusals::BLOCKS;
+    if !sizes_right(h) {
+        return Err(Refusal::Blocks);
     }
-    let counts = counts_right(h);
-    if !counts {
-        return refusals::COUNTS;
+    if !counts_right(h) {
+        return Err(Refusal::Counts);
     }
     if s.len() < size_of(h) {
-        return refusals::SHORT;
+        return Err(Refusal::Short);
     }
-    body_fault(s, h)
+    if h.edition.location_bits == LOCATION_BITS {
+        judge_body::<LOCATION_BITS>(s, h)
+    } else {
+        judge_body::<WIDE_LOCATION_BITS>(s, h)
+    }
 }
 
-// The number of the first fault by a header, or 0.
-fn fault(s: &[u8], h: Header) -> u8
+// All of a picture, by its header.
+fn judge(s: &[u8], h: Header) -> Result<(), Refusal>
     requires { Known h.edition }
-    ensures { result ≡ first (faults_with h (picture_with h s.now) s.now) }
+    ensures { fault_of result ≡ first (faults_with h (picture_with h s.now) s.now) }
 {
     if s.len() < LEAST_BYTES {
-        return refusals::SHORT;
+        return Err(Refusal::Short);
     }
     if bits::field(s, 0, EDITION_BITS) != h.edition.number {
-        return refusals::EDITION;
+        return Err(Refusal::Edition);
     }
     if s.len() < slots_at(h.edition) / 8 {
-        return refusals::SHORT;
+        return Err(Refusal::Short);
     }
-    header_fault(s, h)
+    judge_sizes(s, h)
 }
 
-// Reads a picture of any bytes: accepted, with the header's numbers, or refused with the number of its first fault.
-pub fn read(s: &[u8]) -> Reading
+// Reads a picture of any bytes: the header's numbers, or the first fault.
+pub fn read(s: &[u8]) -> Result<Header, Refusal>
     ensures answer { result ≡ reading s.now }
     ensures numbers { reading_numbers result ≡ outcome (picture_fault s.now) (header_values (header_of s.now)) }
 {
-    let h = header_of(s);
-    let number = fault(s, h);
-    if number == 0 {
-        return Reading::Accepted(h);
-    }
-    Reading::Refused(number)
+    Ok(Picture::read(s)?.header())
 }

@@ -1,5 +1,4 @@
 -- Marks in a word, and the loop that takes them from the lowest on. Assumes nothing.
-use mathlib.Core.Bool.{◌&&◌}
 use mathlib.Core.Logic.{inl, inr, by_cases}
 use mathlib.Core.Path.{◌≡◌, sym, ◌∙◌}
 use Prim.Native.Nat.{ℕ, ◌+◌, ◌-◌, ◌^◌, ◌≤◌, ◌<◌}
@@ -8,10 +7,13 @@ use native.Mathlib.Decide.{ℕ_discrete}
 use native.Mathlib.Nat.{pos_of_ne-zero}
 use lib.Bits.{bit_and, and_le_r}
 use lib.Count.{count_trailing_zeros}
-use lib.Dec.{T, leb, ltb, eqb, eqb_refl, leb→le, le→leb, ltb→lt, lt→ltb, eqb→eq}
-use Rattle.rows.specs.Rows.{bit, in_word}
-use Rattle.lists.proofs.Tests.{and_T, T_and, eq_T}
-use Rattle.rows.proofs.Digits.{bit_none, digit_and}
+use lib.Dec.{T, eqb, eqb_refl, eqb→eq}
+use Rattle.std.specs.Int.{bit_at}
+use Rattle.std.proofs.lemmas.Nat.Bits.{bit_at-zero}
+use Rattle.std.proofs.lemmas.Bool.Decides.{nat_tests}
+use Rattle.rows.specs.Rows.{in_word}
+use Rattle.lists.proofs.Tests.{eq_T}
+use Rattle.rows.proofs.Digits.{digit_and}
 use Rattle.rows.proofs.Lowest.{Low, low, low_small}
 use Rattle.rows.proofs.Parts.{Part, Picked, part_begun, part_more}
 
@@ -19,44 +21,29 @@ use Rattle.rows.proofs.Parts.{Part, Picked, part_begun, part_more}
 pub record InWord (word base v : ℕ) : Type 0 where
   pub from : base ≤ v
   pub to : v < base + 64
-  pub digit : bit word (v - base) ≡ 1
+  pub digit : bit_at word (v - base) ≡ 1
 
 module _ (word base v : ℕ) where
   pub in_word_lem : T (in_word word base v) → InWord word base v
   unfolding in_word
-  in_word_lem t =
-      let s = and_T (leb base v) (ltb v (base + 64) && eqb (bit word (v - base)) 1) t in
-      let r = and_T (ltb v (base + 64)) (eqb (bit word (v - base)) 1) s.1 in
-      record { from = leb→le base v s.0; to = ltb→lt v (base + 64) r.0; digit = eqb→eq (bit word (v - base)) 1 r.1 }
+  in_word_lem t = record { from = grind (arith, nat_tests); to = grind (arith, nat_tests); digit = grind (arith, nat_tests) }
 
   pub word_in : InWord word base v → T (in_word word base v)
   unfolding in_word
-  word_in i =
-      T_and
-      (leb base v)
-      (ltb v (base + 64) && eqb (bit word (v - base)) 1)
-      (le→leb base v i.from)
-      (T_and (ltb v (base + 64)) (eqb (bit word (v - base)) 1) (lt→ltb v (base + 64) i.to) (eq_T (bit word (v - base)) 1 i.digit))
+  word_in i = grind (arith, nat_tests)
 
 -- what is marked in two words is marked in what they have in common
 pub both_words : (a b base v : ℕ) → T (in_word a base v) → T (in_word b base v) → T (in_word (bit_and a b) base v)
-both_words a b base v s t =
-    let i = in_word_lem a base v s in
-    let k = v - base in
-    let both : T (eqb (bit a k) 1 && eqb (bit b k) 1) = T_and (eqb (bit a k) 1) (eqb (bit b k) 1) (eq_T (bit a k) 1 i.digit) (eq_T (bit b k) 1 (in_word_lem b base v t).digit) in
-    word_in (bit_and a b) base v (record { from = i.from; to = i.to; digit = eqb→eq (bit (bit_and a b) k) 1 (rw (digit_and a b k) both) })
+unfolding in_word
+both_words a b base v s t = grind (arith, nat_tests, digit_and a b (v - base))
 
 pub common_words : (a b base v : ℕ) → T (in_word (bit_and a b) base v) → T (in_word a base v) × T (in_word b base v)
-common_words a b base v t =
-    let s = in_word_lem (bit_and a b) base v t in
-    let r = and_T (eqb (bit a (v - base)) 1) (eqb (bit b (v - base)) 1) (rw (digit_and a b (v - base)) at (eq_T (bit (bit_and a b) (v - base)) 1 s.digit)) in (
-      word_in a base v (record { from = s.from; to = s.to; digit = eqb→eq (bit a (v - base)) 1 r.0 }),
-      word_in b base v (record { from = s.from; to = s.to; digit = eqb→eq (bit b (v - base)) 1 r.1 }),
-    )
+unfolding in_word
+common_words a b base v t = (grind (arith, nat_tests, digit_and a b (v - base)), grind (arith, nat_tests, digit_and a b (v - base)))
 
 -- no digit is set in 0
 pub none_in_zero : (word base : ℕ) → word ≡ 0 → (v : ℕ) → ¬ T (in_word word base v)
-none_in_zero word base z v t = omega (arith, bit_none (v - base), (rw z at (in_word_lem word base v t)).digit)
+none_in_zero word base z v t = omega (arith, bit_at-zero (v - base), (rw z at (in_word_lem word base v t)).digit)
 
 -- the location of the lowest digit is taken from a word
 pub lowest_picked : (w i base : ℕ) → i < 64 → Low w i → Picked (in_word w base) (eqb (base + i)) (in_word (bit_and w (w - 1)) base)
@@ -85,7 +72,7 @@ lowest_picked w i base small l =
     apart : (v : ℕ) → InWord (bit_and w (w - 1)) base v → v - base ≡ i → ⊥
     apart v s e = omega (arith, l.cleared, rw e at s.digit)
 
-    rest : (v : ℕ) → InWord (bit_and w (w - 1)) base v → bit w (v - base) ≡ 1
+    rest : (v : ℕ) → InWord (bit_and w (w - 1)) base v → bit_at w (v - base) ≡ 1
     rest v s = sym (l.others (v - base) (apart v s)) ∙ s.digit
 
 -- what is left of a word, as the loop has it

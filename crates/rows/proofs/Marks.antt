@@ -1,5 +1,5 @@
 -- Marks in a row of words, and the loop that takes them word by word. Assumes nothing.
-use mathlib.Core.Bool.{Bool, true, false, not, xor, ◌&&◌, ◌||◌, or-false}
+use mathlib.Core.Bool.{Bool, false, not, xor, ◌&&◌, ◌||◌}
 use mathlib.Core.List.{List, []}
 use mathlib.Core.Logic.{inl, inr, by_cases}
 use mathlib.Core.Path.{◌≡◌, refl, sym, ap, ap₂, ◌∙◌, subst}
@@ -10,37 +10,37 @@ use native.Mathlib.Nat.{lt_of_le_of_lt}
 use lib.Bits.{bit_and, bit_or, bit_xor, and_le_l, and_le_r, or_add_and}
 use borrow.Author.Count.{below_more}
 use lib.Count.{count_trailing_zeros}
-use borrow.Author.Tests.{eq-eqb, ne_eqb, le-leb, lt-ltb}
-use lib.Dec.{T, leb, eqb, leb→le, le→leb, eqb→eq, T_not}
-use lib.ListN.{length, get_or, set, replicate, length-set, length-replicate}
+use lib.Dec.{T, leb, eqb, eqb→eq, T_not}
+use lib.ListN.{length, get_or, set, replicate, length-set}
 use lib.Seq.{get_or-set_same, get_or-set_other}
-use Rattle.rows.specs.Rows.{bit, marked, linked_in, words_for, Narrow, With, Linked, Differ, Minus, Meet, slots_max, row_words, in_word}
-use Rattle.lists.proofs.Tests.{and_T, T_and, eq_T, is_false, not_not_T}
+use Rattle.std.specs.Int.{w64, bit_at, bit_not}
+use Rattle.std.proofs.lemmas.Bool.Decides.{nat_tests}
+use Rattle.std.proofs.lemmas.Nat.Bits.{bit_at-zero}
+use Rattle.rows.specs.Rows.{marked, linked_in, words_for, Narrow, With, Linked, Differ, Minus, Meet, Made, slots_max, row_words, in_word}
+use Rattle.lists.proofs.Tests.{and_T, eq_T, is_false, not_not_T}
 use Rattle.lists.proofs.Picks.{zeros_at}
-use Rattle.rows.proofs.Digits.{bit_none, digit_and, digit_or, digit_xor, digit_shifted}
+use Rattle.rows.proofs.Digits.{digit_and, digit_or, digit_xor, digit_not, digit_shifted}
 use Rattle.rows.proofs.InWords.{in_word_lem, word_in, both_words, common_words, none_in_zero, word_begun, word_here}
 use Rattle.rows.proofs.Parts.{done_split, Part, Picked}
 
 -- a mark is a digit that is set
-pub mark_digit : (row : List ℕ) (v : ℕ) → T (marked row v) → bit (get_or row (v / 64) 0) (v % 64) ≡ 1
+pub mark_digit : (row : List ℕ) (v : ℕ) → T (marked row v) → bit_at (get_or row (v / 64) 0) (v % 64) ≡ 1
 unfolding marked
-mark_digit row v t = eqb→eq (bit (get_or row (v / 64) 0) (v % 64)) 1 t
+mark_digit row v t = eqb→eq (bit_at (get_or row (v / 64) 0) (v % 64)) 1 t
 
-pub digit_mark : (row : List ℕ) (v : ℕ) → bit (get_or row (v / 64) 0) (v % 64) ≡ 1 → T (marked row v)
+pub digit_mark : (row : List ℕ) (v : ℕ) → bit_at (get_or row (v / 64) 0) (v % 64) ≡ 1 → T (marked row v)
 unfolding marked
-digit_mark row v e = eq_T (bit (get_or row (v / 64) 0) (v % 64)) 1 e
+digit_mark row v e = eq_T (bit_at (get_or row (v / 64) 0) (v % 64)) 1 e
 
 -- the mark of a location that falls in word i
-pub mark_is : (row : List ℕ) (i v : ℕ) → v / 64 ≡ i → marked row v ≡ eqb (bit (get_or row i 0) (v % 64)) 1
+pub mark_is : (row : List ℕ) (i v : ℕ) → v / 64 ≡ i → marked row v ≡ eqb (bit_at (get_or row i 0) (v % 64)) 1
 unfolding marked
 mark_is row i v e = rw e
 
 -- the same of a word alone
-pub word_is : (word i v : ℕ) → v / 64 ≡ i → in_word word (i * 64) v ≡ eqb (bit word (v % 64)) 1
+pub word_is : (word i v : ℕ) → v / 64 ≡ i → in_word word (i * 64) v ≡ eqb (bit_at word (v % 64)) 1
 unfolding in_word
-word_is word i v e =
-    let m : v - i * 64 ≡ v % 64 = omega arith in
-    rw (le-leb (i * 64) v (omega arith), lt-ltb v (i * 64 + 64) (omega arith), m)
+word_is word i v e = let m : v - i * 64 ≡ v % 64 = omega arith in rw m (grind (arith, nat_tests))
 
 -- a location is marked in the word of a row that it falls in
 pub word_marked : (row : List ℕ) (i v : ℕ) → T (in_word (get_or row i 0) (i * 64) v) → (v / 64 ≡ i) × T (marked row v)
@@ -62,15 +62,15 @@ from_word i marks v = leb i (v / 64) && marks v
 module _ (i : ℕ) (marks : ℕ → Bool) (v : ℕ) where
   pub from_word_lem : T (from_word i marks v) → (i ≤ v / 64) × T (marks v)
   unfolding from_word
-  from_word_lem t = let s = and_T (leb i (v / 64)) (marks v) t in (leb→le i (v / 64) s.0, s.1)
+  from_word_lem t = (grind (arith, nat_tests), grind (arith, nat_tests))
 
   pub word_from : i ≤ v / 64 → T (marks v) → T (from_word i marks v)
   unfolding from_word
-  word_from l t = T_and (leb i (v / 64)) (marks v) (le→leb i (v / 64) l) t
+  word_from l t = grind (arith, nat_tests)
 
 -- a location whose word is 0 is not marked
 word_none : (row : List ℕ) (v : ℕ) → get_or row (v / 64) 0 ≡ 0 → ¬ T (marked row v)
-word_none row v z t = omega (arith, bit_none (v % 64), rw z at (mark_digit row v t))
+word_none row v z t = omega (arith, bit_at-zero (v % 64), rw z at (mark_digit row v t))
 
 -- from the first word on all marks are left
 pub from_first : (marks : ℕ → Bool) (v : ℕ) → T (marks v) → T (from_word 0 marks v)
@@ -108,7 +108,7 @@ row_picked row i =
 
 -- the marks of a row after a store
 module _ (row : List ℕ) (i w : ℕ) where
-  pub mark_here : i < length row → (v : ℕ) → v / 64 ≡ i → marked (set row i w) v ≡ eqb (bit w (v % 64)) 1
+  pub mark_here : i < length row → (v : ℕ) → v / 64 ≡ i → marked (set row i w) v ≡ eqb (bit_at w (v % 64)) 1
   mark_here l v e = mark_is (set row i w) i v e ∙ rw (get_or-set_same row i w 0 l)
 
   pub mark_other : (v : ℕ) → (v / 64 ≡ i → ⊥) → marked (set row i w) v ≡ marked row v
@@ -134,75 +134,42 @@ module _ {words : ℕ} {row : List ℕ} (narrow : Narrow words row) {i : ℕ} (p
   pub narrow_none : ((j : ℕ) → j < i → get_or row j 0 ≡ 0) → (v : ℕ) → ¬ T (marked row v)
   narrow_none zeros v t = by_cases (dec_lt (v / 64) i) (λ l. word_none row v (zeros (v / 64) l) t) (λ nl. narrow_past v (omega arith) t)
 
--- ---- rows that are made word by word, by an operator that works digit by digit
+-- ---- rows that are made word by word
 
--- of a row, i words are made of those of two others, and the rest are 0
-pub record Made (op : ℕ → ℕ → ℕ) (one other row : List ℕ) (i : ℕ) : Type 0 where
-  pub within : i ≤ row_words
-  pub rows : length row ≡ row_words
-  pub words : (j : ℕ) → j < i → get_or row j 0 ≡ op (get_or one j 0) (get_or other j 0)
-  pub rest : (j : ℕ) → i ≤ j → get_or row j 0 ≡ 0
+module _ {made : ℕ → ℕ → ℕ → Type 0} {one other row : List ℕ} where
+  -- where each digit that is made is the test of two digits, and no mark is past the words that are made, a mark of the row is the test of two marks
+  pub made_marks : {end : ℕ} → Made made one other row end → (test : Bool → Bool → Bool)
+      → ((i k : ℕ) → k < 64 → made (get_or one i 0) (get_or other i 0) (get_or row i 0) → eqb (bit_at (get_or row i 0) k) 1 ≡ test (eqb (bit_at (get_or one i 0) k) 1) (eqb (bit_at (get_or other i 0) k) 1))
+      → ((v : ℕ) → end ≤ v / 64 → test (marked one v) (marked other v) ≡ false)
+      → (v : ℕ) → marked row v ≡ test (marked one v) (marked other v)
+  unfolding marked
+  made_marks {end} m test digit past v =
+      by_cases
+      (dec_lt (v / 64) end)
+      (λ l. digit (v / 64) (v % 64) (omega arith) (m.words (v / 64) l))
+      (λ nl. is_false (marked row v) (word_none row v (m.rest (v / 64) (omega arith))) ∙ sym (past v (omega arith)))
 
-module _ (op : ℕ → ℕ → ℕ) {one other : List ℕ} where
-  pub made_begun : Made op one other (replicate row_words 0) 0
-  made_begun =
-      record {
-        within = omega arith;
-        rows = length-replicate {A = ℕ} row_words 0;
-        words = λ j l. absurd (omega arith);
-        rest = λ j l. zeros_at row_words j;
-      }
+  module _ {words end : ℕ} (m : Made made one other row end) (passed : words ≤ end) where
+    pub differ_made : Narrow words one × Narrow words other
+        → ((i : ℕ) → made (get_or one i 0) (get_or other i 0) (get_or row i 0) → get_or row i 0 ≡ bit_xor (get_or one i 0) (get_or other i 0)) → Differ one other row
+    unfolding xor
+    differ_made n by =
+        record {
+          marks =
+              made_marks m xor
+              (λ i k l w. rw (by i w) (digit_xor (get_or one i 0) (get_or other i 0) k))
+              (λ v h. rw (is_false (marked one v) (narrow_past n.0 passed v h), is_false (marked other v) (narrow_past n.1 passed v h)));
+        }
 
-  pub made_next : {row : List ℕ} {i : ℕ} → Made op one other row i → i < row_words → Made op one other (set row i (op (get_or one i 0) (get_or other i 0))) (i + 1)
-  made_next {row} {i} m l =
-      record {
-        within = omega arith;
-        rows = simp length-set m.rows;
-        words = below_more _ _ (λ j h. get_or-set_other row i j _ 0 (omega arith) ∙ m.words j h) (get_or-set_same row i _ 0 (omega (arith, m.rows)));
-        rest = λ j h. get_or-set_other row i j _ 0 (omega arith) ∙ m.rest j (omega arith);
-      }
-
-  -- when no more need be made, a mark of the row is the test of the two marks
-  module _ (test : Bool → Bool → Bool) (digit : (a b k : ℕ) → eqb (bit (op a b) k) 1 ≡ test (eqb (bit a k) 1) (eqb (bit b k) 1)) where
-    made_here : {row : List ℕ} {i : ℕ} → Made op one other row i → (v : ℕ) → v / 64 < i → marked row v ≡ test (marked one v) (marked other v)
-    unfolding marked
-    made_here m v l = ap (λ w. eqb (bit w (v % 64)) 1) (m.words (v / 64) l) ∙ digit (get_or one (v / 64) 0) (get_or other (v / 64) 0) (v % 64)
-
-    made_marks : {row : List ℕ} {i : ℕ} → Made op one other row i → ((v : ℕ) → i ≤ v / 64 → test (marked one v) (marked other v) ≡ false)
-        → (v : ℕ) → marked row v ≡ test (marked one v) (marked other v)
-    made_marks {row} {i} m past v =
-        by_cases
-        (dec_lt (v / 64) i)
-        (made_here m v)
-        (λ nl. is_false (marked row v) (word_none row v (m.rest (v / 64) (omega arith))) ∙ sym (past v (omega arith)))
-
--- what the first word has and the second has not
-abbrev pub less_word : ℕ → ℕ → ℕ
-less_word a b = bit_xor a (bit_and a b)
-
-digit_less : (a b k : ℕ) → eqb (bit (less_word a b) k) 1 ≡ (eqb (bit a k) 1 && not (eqb (bit b k) 1))
-unfolding xor
-digit_less a b k = digit_xor a (bit_and a b) k ∙ ap (xor (eqb (bit a k) 1)) (digit_and a b k) ∙ less (eqb (bit a k) 1) (eqb (bit b k) 1)
-  where
-    less : (x y : Bool) → xor x (x && y) ≡ (x && not y)
-    less true true = refl
-    less true false = refl
-    less false y = refl
-
--- the rows are narrow, and all words that have marks are made
-module _ {words : ℕ} {one other row : List ℕ} {i : ℕ} where
-  pub differ_ended : Narrow words one × Narrow words other → Made bit_xor one other row i → words ≤ i → Differ one other row
-  unfolding xor
-  differ_ended n m l =
-      record {
-        marks =
-            made_marks bit_xor xor digit_xor m
-            (λ v h. rw (is_false (marked one v) (narrow_past n.0 l v h), is_false (marked other v) (narrow_past n.1 l v h)));
-      }
-
-  pub minus_ended : Narrow words one → Made less_word one other row i → words ≤ i → Minus one other row
-  minus_ended n m l =
-      record { marks = made_marks less_word (λ x y. x && not y) digit_less m (λ v h. rw (is_false (marked one v) (narrow_past n l v h))) }
+    pub minus_made : Narrow words one → ((i : ℕ) → get_or other i 0 < 2 ^ 64)
+        → ((i : ℕ) → made (get_or one i 0) (get_or other i 0) (get_or row i 0) → get_or row i 0 ≡ bit_and (get_or one i 0) (bit_not w64 (get_or other i 0))) → Minus one other row
+    minus_made n small by =
+        record {
+          marks =
+              made_marks m (λ x y. x && not y)
+              (λ i k l w. rw (by i w) (digit_and (get_or one i 0) (bit_not w64 (get_or other i 0)) k ∙ ap (λ y. eqb (bit_at (get_or one i 0) k) 1 && y) (digit_not (get_or other i 0) k (small i) l)))
+              (λ v h. rw (is_false (marked one v) (narrow_past n passed v h)));
+        }
 
 -- a row of zeros marks nothing
 pub clear : (n v : ℕ) → ¬ T (marked (replicate n 0) v)
@@ -227,23 +194,14 @@ some_marked row i small some =
 -- a row with v marked too, as the machine stores it
 pub with_mark : (row : List ℕ) (v : ℕ) → v / 64 < length row → (u : ℕ) → marked (set row (v / 64) (bit_or (get_or row (v / 64) 0) (1 * 2 ^ (v % 64) % 2 ^ 64))) u ≡ (marked row u || eqb u v)
 with_mark row v l u =
+    let word : ℕ = bit_or (get_or row (v / 64) 0) (1 * 2 ^ (v % 64) % 2 ^ 64) in
     by_cases
     (ℕ_discrete (u / 64) (v / 64))
     (λ e.
     mark_here row (v / 64) word l u e
     ∙ digit_or (get_or row (v / 64) 0) (1 * 2 ^ (v % 64) % 2 ^ 64) (u % 64)
-    ∙ ap₂ ◌||◌ (sym (mark_is row (v / 64) u e)) (digit_shifted (v % 64) (u % 64) (omega arith) ∙ places e))
-    (λ ne. mark_other row (v / 64) word u ne ∙ sym (ap (λ b. marked row u || b) (ne_eqb u v (λ e. ne (ap (λ x. x / 64) e))) ∙ or-false (marked row u)))
-  where
-    word : ℕ
-    word = bit_or (get_or row (v / 64) 0) (1 * 2 ^ (v % 64) % 2 ^ 64)
-
-    places : u / 64 ≡ v / 64 → eqb (u % 64) (v % 64) ≡ eqb u v
-    places e =
-        by_cases
-        (ℕ_discrete u v)
-        (λ q. eq-eqb _ _ (ap (λ x. x % 64) q) ∙ sym (eq-eqb _ _ q))
-        (λ n. ne_eqb (u % 64) (v % 64) (λ m. n (omega arith)) ∙ sym (ne_eqb u v n))
+    ∙ ap₂ ◌||◌ (sym (mark_is row (v / 64) u e)) (digit_shifted (v % 64) (u % 64) (omega arith) ∙ grind (arith, nat_tests)))
+    (λ ne. mark_other row (v / 64) word u ne ∙ grind (arith, nat_tests))
 
 -- a row of links with one more mark
 pub with_link : (rows : List (List ℕ)) (a b : ℕ) (row : List ℕ) → a < length rows → With (get_or rows a []) b row → Linked rows a b (set rows a row)
@@ -254,8 +212,8 @@ with_link rows a b row l w = record { many = length-set rows a row; links = link
     links x y =
         by_cases
         (ℕ_discrete x a)
-        (λ e. rw (e, get_or-set_same rows a row [] l, eq-eqb a a refl) (w.marks y))
-        (λ ne. rw (get_or-set_other rows a x row [] ne, ne_eqb x a ne) (sym (or-false (marked (get_or rows x []) y))))
+        (λ e. rw (e, get_or-set_same rows a row [] l) (w.marks y ∙ grind (arith, nat_tests)))
+        (λ ne. rw (get_or-set_other rows a x row [] ne) (grind (arith, nat_tests)))
 
 -- a row with the origin marked too
 pub with_origin : (row : List ℕ) → 0 < length row → (v : ℕ) → marked (set row 0 (bit_or (get_or row 0 0) 1)) v ≡ (marked row v || eqb v 0)
@@ -276,39 +234,35 @@ pub record Looked (one other : List ℕ) (seen i : ℕ) : Type 0 where
   pub none : seen ≡ 0 → (j : ℕ) → j < i → common one other j ≡ 0
   pub some : (seen ≡ 0 → ⊥) → (j : ℕ) × (common one other j ≡ 0 → ⊥)
 
-module _ {one other : List ℕ} where
-  pub looked_begun : Looked one other 0 0
-  looked_begun = record { none = λ _ j l. absurd (omega arith); some = λ n. absurd (n refl) }
+module _ {one other : List ℕ} {seen i : ℕ} (l : Looked one other seen i) where
+  pub looked_next : Looked one other (bit_or seen (common one other i)) (i + 1)
+  looked_next =
+      let w : ℕ = common one other i in
+      record {
+        none = λ z. below_more _ _ (l.none (or_none seen w z).0) (or_none seen w z).1;
+        some = λ n. by_cases (ℕ_discrete w 0) (λ e. l.some (λ z. n (rw (z, e)))) (λ ne. (i, ne));
+      }
 
-  module _ {seen i : ℕ} (l : Looked one other seen i) where
-    pub looked_next : Looked one other (bit_or seen (common one other i)) (i + 1)
-    looked_next =
-        let w : ℕ = common one other i in
-        record {
-          none = λ z. below_more _ _ (l.none (or_none seen w z).0) (or_none seen w z).1;
-          some = λ n. by_cases (ℕ_discrete w 0) (λ e. l.some (λ z. n (rw (z, e)))) (λ ne. (i, ne));
-        }
+  -- the words of the other row that have marks are looked at, and each word of the first has 64 digits
+  pub looked_ended : ((j : ℕ) → get_or one j 0 < 2 ^ 64) → {words : ℕ} → Narrow words other → words ≤ i → Meet (marked one) (marked other) (not (eqb seen 0))
+  looked_ended small narrow passed =
+      record {
+        common = λ t. met (l.some (λ z. T_not (eqb seen 0) t (eq_T seen 0 z)));
+        apart = λ t. unmet (l.none (eqb→eq seen 0 (not_not_T (eqb seen 0) t)));
+      }
+    where
+      met : (j : ℕ) × (common one other j ≡ 0 → ⊥) → (v : ℕ) × T (marked one v) × T (marked other v)
+      met (j, some) =
+          let w : ℕ = common one other j in
+          let v : ℕ = j * 64 + count_trailing_zeros 64 w in
+          let here = word_here (word_begun w (j * 64) (lt_of_le_of_lt (and_le_l (get_or one j 0) (get_or other j 0)) (small j))) some in
+          let s = common_words (get_or one j 0) (get_or other j 0) (j * 64) v here in
+          (v, (word_marked one j v s.0).1, (word_marked other j v s.1).1)
 
-    -- the words of the other row that have marks are looked at, and each word of the first has 64 digits
-    pub looked_ended : ((j : ℕ) → get_or one j 0 < 2 ^ 64) → {words : ℕ} → Narrow words other → words ≤ i → Meet (marked one) (marked other) (not (eqb seen 0))
-    looked_ended small narrow passed =
-        record {
-          common = λ t. met (l.some (λ z. T_not (eqb seen 0) t (eq_T seen 0 z)));
-          apart = λ t. unmet (l.none (eqb→eq seen 0 (not_not_T (eqb seen 0) t)));
-        }
-      where
-        met : (j : ℕ) × (common one other j ≡ 0 → ⊥) → (v : ℕ) × T (marked one v) × T (marked other v)
-        met (j, some) =
-            let w : ℕ = common one other j in
-            let v : ℕ = j * 64 + count_trailing_zeros 64 w in
-            let here = word_here (word_begun w (j * 64) (lt_of_le_of_lt (and_le_l (get_or one j 0) (get_or other j 0)) (small j))) some in
-            let s = common_words (get_or one j 0) (get_or other j 0) (j * 64) v here in
-            (v, (word_marked one j v s.0).1, (word_marked other j v s.1).1)
-
-        unmet : ((j : ℕ) → j < i → common one other j ≡ 0) → (v : ℕ) → T (marked one v) → ¬ T (marked other v)
-        unmet none v a b =
-            let j : ℕ = v / 64 in
-            by_cases
-            (dec_lt j i)
-            (λ h. none_in_zero (common one other j) (j * 64) (none j h) v (both_words (get_or one j 0) (get_or other j 0) (j * 64) v (marked_word one j v refl a) (marked_word other j v refl b)))
-            (λ nh. narrow_past narrow passed v (omega arith) b)
+      unmet : ((j : ℕ) → j < i → common one other j ≡ 0) → (v : ℕ) → T (marked one v) → ¬ T (marked other v)
+      unmet none v a b =
+          let j : ℕ = v / 64 in
+          by_cases
+          (dec_lt j i)
+          (λ h. none_in_zero (common one other j) (j * 64) (none j h) v (both_words (get_or one j 0) (get_or other j 0) (j * 64) v (marked_word one j v refl a) (marked_word other j v refl b)))
+          (λ nh. narrow_past narrow passed v (omega arith) b)

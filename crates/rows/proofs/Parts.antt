@@ -3,8 +3,9 @@ use mathlib.Core.Bool.{Bool, not, ◌&&◌}
 use mathlib.Core.Logic.{◌⊎◌, inl, inr, ⊎_elim, by_cases}
 use Prim.Native.Nat.{ℕ, ◌<◌}
 use native.Mathlib.Omega.{arith}
-use lib.Dec.{T, T_not, not_T}
-use Rattle.lists.proofs.Tests.{T?, and_T, T_and}
+use lib.Dec.{T}
+use Rattle.std.proofs.lemmas.Bool.Decides.{nat_tests}
+use Rattle.lists.proofs.Tests.{T?}
 
 -- what is done of some marks, of which others are left
 unfoldable pub done : (ℕ → Bool) → (ℕ → Bool) → ℕ → Bool
@@ -31,11 +32,11 @@ pub record Union (before new after : ℕ → Bool) : Type 0 where
 module _ (marks left : ℕ → Bool) where
   pub done_split : (v : ℕ) → T (done marks left v) → T (marks v) × ¬ T (left v)
   unfolding done
-  done_split v t = let s = and_T (marks v) (not (left v)) t in (s.0, T_not (left v) s.1)
+  done_split v t = (grind (arith, nat_tests), λ l. grind (arith, nat_tests))
 
   pub split_done : (v : ℕ) → T (marks v) → ¬ T (left v) → T (done marks left v)
   unfolding done
-  split_done v m l = T_and (marks v) (not (left v)) m (not_T (left v) l)
+  split_done v m l = grind (arith, nat_tests)
 
   -- nothing is done where all is left
   pub done_none : ((v : ℕ) → T (marks v) → T (left v)) → (v : ℕ) → ¬ T (done marks left v)

@@ -1,7 +1,8 @@
 -- Locations by their numbers. Inner: nothing here is promised. Assumes nothing.
 use Rattle.std.specs.Prelude.{Bool, not, ◌&&◌, ◌≡◌, ℕ, ◌+◌, ◌<◌, leb, eqb}
 use Rattle.rows.specs.declared.Range.{Range}
-use Rattle.rows.specs.Rows.{bit, in_word}
+use Rattle.std.specs.Int.{bit_at}
+use Rattle.rows.specs.Rows.{in_word}
 
 -- v is a location of a range: above its first number, and at most its last
 unfoldable pub in_range : Range → ℕ → Bool
@@ -23,7 +24,7 @@ avoiding r linked a = without r (linked a)
 
 -- the digits of a word whose first place is location base are set up to that of location v
 pub record UpTo (base v word : ℕ) : Type 0 where
-  pub digits : (i : ℕ) → i < 64 → eqb (bit word i) 1 ≡ leb (base + i) v
+  pub digits : (i : ℕ) → i < 64 → eqb (bit_at word i) 1 ≡ leb (base + i) v
 
 -- a word has the marks of another, but for those of a range
 pub record LeftOut (r : Range) (word base left : ℕ) : Type 0 where

@@ -1,6 +1,7 @@
 -- Rows of marks, 64 to a word: a location is marked by a digit of a word. Inner: nothing here is promised. Assumes nothing.
-use Rattle.std.specs.Prelude.{Bool, not, ◌&&◌, ◌||◌, List, [], ◌≡◌, ℕ, ◌+◌, ◌-◌, ◌*◌, ◌/◌, ◌%◌, ◌^◌, ◌≤◌, ◌<◌, length, get_or, T, leb, ltb, eqb}
+use Rattle.std.specs.Prelude.{Bool, not, ◌&&◌, ◌||◌, List, [], ◌≡◌, ℕ, ◌+◌, ◌-◌, ◌*◌, ◌/◌, ◌%◌, ◌≤◌, ◌<◌, length, get_or, T, leb, ltb, eqb}
 use Rattle.std.specs.Bool.{xor}
+use Rattle.std.specs.Int.{bit_at}
 
 -- the slots that rows have a place for: locations are 0, the origin, and the slots 1 to slots_max
 abbrev pub slots_max : ℕ
@@ -22,13 +23,9 @@ words_for n = n / 64 + 1
 abbrev pub marks_max : ℕ
 marks_max = row_words * 64
 
--- the digit of a word at a place, 0 or 1
-unfoldable pub bit : ℕ → ℕ → ℕ
-bit w i = w / 2 ^ i % 2
-
 -- whether v is marked in a row of words
 unfoldable pub marked : List ℕ → ℕ → Bool
-marked row v = eqb (bit (get_or row (v / 64) 0) (v % 64)) 1
+marked row v = eqb (bit_at (get_or row (v / 64) 0) (v % 64)) 1
 
 -- a link leads from a to b: row a marks b
 unfoldable pub linked_in : List (List ℕ) → ℕ → ℕ → Bool
@@ -36,7 +33,7 @@ linked_in rows a b = marked (get_or rows a []) b
 
 -- whether v is one of the 64 locations from base on, and marked in their word
 unfoldable pub in_word : ℕ → ℕ → ℕ → Bool
-in_word word base v = leb base v && (ltb v (base + 64) && eqb (bit word (v - base)) 1)
+in_word word base v = leb base v && (ltb v (base + 64) && eqb (bit_at word (v - base)) 1)
 
 -- a row marks nothing but in its first words, so that no more than these need be looked at
 pub record Narrow (words : ℕ) (row : List ℕ) : Type 0 where
@@ -61,6 +58,11 @@ pub record Differ (before after row : List ℕ) : Type 0 where
 -- a row marks what the first of two rows marks and the second does not
 pub record Minus (row less row' : List ℕ) : Type 0 where
   pub marks : (v : ℕ) → marked row' v ≡ (marked row v && not (marked less v))
+
+-- of a row, the first words are made of those of two others at the same places, and the rest are 0
+pub record Made (made : ℕ → ℕ → ℕ → Type 0) (one other row : List ℕ) (end : ℕ) : Type 0 where
+  pub words : (i : ℕ) → i < end → made (get_or one i 0) (get_or other i 0) (get_or row i 0)
+  pub rest : (i : ℕ) → end ≤ i → get_or row i 0 ≡ 0
 
 -- whether a row marks nothing
 pub record NoneMarked (row : List ℕ) (none : Bool) : Type 0 where

@@ -1,10 +1,10 @@
 // Rows of marks, 64 to a word: sets of locations; and ranges of locations by their numbers.
 #![tactic(auto)]
 
-ghost use Rattle.std.specs.Prelude.{Bool, ◌≡◌, ℕ, ◌+◌, ◌-◌, ◌^◌, ◌≤◌, ◌<◌, length, get_or};
+ghost use Rattle.std.specs.Prelude.{Bool, ◌≡◌, ℕ, ◌+◌, ◌-◌, ◌≤◌, ◌<◌, length};
 ghost use Rattle.lists.specs.Lists.{range, any};
 ghost use Rattle.rows.specs.Ranges.{no_range, UpTo, LeftOut};
-ghost use Rattle.rows.specs.Rows.{marked, words_for, Narrow, With, Linked, Differ, Minus, NoneMarked, Meet, marks_max, row_words};
+ghost use Rattle.rows.specs.Rows.{marked, words_for, Narrow, With, Linked, Differ, Minus, NoneMarked, Meet, Made, marks_max, row_words};
 
 // The slots that rows have a place for.
 pub const SLOTS: usize = 320;
@@ -15,6 +15,9 @@ pub const WORDS: usize = 6;
 // Most rows need no more than these.
 const FEW_WORDS: usize = 4;
 
+// A row: its marks are the digits of its words, the lowest of the first word for location 0.
+pub type Row = [u64; WORDS];
+
 // Locations by their numbers: those above the first number, up to the second (01: the slots of a block).
 #[derive(Clone, Copy)]
 pub struct Range {
@@ -23,6 +26,7 @@ pub struct Range {
 }
 
 // The words that the locations 0 to n take.
+#[tactic(auto, unfolding(crate::specs::Rows::words_for))]
 pub fn words_for(n: usize) -> usize
     ensures { result ≡ words_for n }
 {
@@ -34,111 +38,98 @@ pub fn words_for(n: usize) -> usize
 pub fn is_end(i: usize, words: usize) -> bool
     ensures { result ≡ Bool.true → words ≤ i }
 {
-    if i != FEW_WORDS {
-        return false;
-    }
-    words <= FEW_WORDS
+    i == FEW_WORDS && words <= FEW_WORDS
 }
 
 // Whether v is marked.
-pub fn has(row: &[u64; WORDS], v: usize) -> bool
+#[tactic(auto, using(std::proofs::lemmas::Nat::Bits::shr_and_one), unfolding(crate::specs::Rows::marked))]
+pub fn has(row: &Row, v: usize) -> bool
     requires { v < marks_max }
     ensures { result ≡ marked row.now v }
 {
     (row[v / 64] >> (v % 64)) & 1 == 1
 }
 
-// Tells the prover that a row has so many words, of 64 digits each, which it knows of an array by value and not of one behind a reference. It
-// does nothing.
-fn all_words(row: [u64; WORDS])
-    ensures { (length row ≡ row_words) × ((i : ℕ) → get_or row i 0 < 2 ^ 64) }
-{}
-
 // The row marks v too.
-pub fn add(row: &mut [u64; WORDS], v: usize)
+#[tactic(auto, using(crate::proofs::Marks::with_mark))]
+pub fn add(row: &mut Row, v: usize)
     requires { v < marks_max }
     ensures { With row.old v row.new }
 {
-    all_words(*row);
-    let w = row[v / 64];
-    row[v / 64] = w | (1 << (v % 64));
+    row[v / 64] |= 1 << (v % 64);
 }
 
 // Row a gets the mark b: a link from a to b. A second mark of the same link changes nothing.
-pub fn mark(rows: &mut [[u64; WORDS]], a: usize, b: usize)
+#[tactic(auto, using(crate::proofs::Marks::with_link))]
+pub fn mark(rows: &mut [Row], a: usize, b: usize)
     requires { (a < length rows.old) × (b < marks_max) }
     ensures { Linked rows.old a b rows.new }
 {
     add(&mut rows[a], b);
 }
 
-// What one of two rows marks and the other does not.
-pub fn differ(before: [u64; WORDS], after: [u64; WORDS], words: usize) -> [u64; WORDS]
-    requires { Narrow words before × Narrow words after }
-    ensures { Differ before after result }
+// A row made word by word of two others, up to where none have marks. As a call it would cost the walk 2 of 100 instructions and some stack.
+#[inline(always)]
+fn word_by_word<F: Fn(u64, u64) -> u64>(one: Row, other: Row, words: usize, op: F) -> Row
+    requires few { words ≤ row_words }
+    requires callable { F.IsAlwaysCallable op }
+    ensures { (end : ℕ) × (words ≤ end) × Made (F.post op) one other result end }
 {
     let mut row = [0u64; WORDS];
-    let mut i: usize = 0;
-    while i < WORDS {
+    for i in 0..WORDS {
         if is_end(i, words) {
             break;
         }
-        row[i] = before[i] ^ after[i];
-        i += 1;
+        row[i] = op(one[i], other[i]);
     }
     row
 }
 
+// What one of two rows marks and the other does not.
+pub fn differ(before: Row, after: Row, words: usize) -> Row
+    requires { Narrow words before × Narrow words after }
+    ensures { Differ before after result }
+{
+    word_by_word(before, after, words, |a, b| a ^ b)
+}
+
 // What the first row marks and the second does not.
-pub fn minus(row: [u64; WORDS], less: [u64; WORDS], words: usize) -> [u64; WORDS]
+pub fn minus(row: Row, less: Row, words: usize) -> Row
     requires { Narrow words row }
     ensures { Minus row less result }
 {
-    let mut left = [0u64; WORDS];
-    let mut i: usize = 0;
-    while i < WORDS {
-        if is_end(i, words) {
-            break;
-        }
-        left[i] = row[i] ^ (row[i] & less[i]);
-        i += 1;
-    }
-    left
+    word_by_word(row, less, words, |a, b| a & !b)
 }
 
 // Whether a row marks nothing.
-pub fn none_marked(row: [u64; WORDS], words: usize) -> bool
+pub fn none_marked(row: Row, words: usize) -> bool
     requires { Narrow words row }
     ensures { NoneMarked row result }
 {
-    let mut i: usize = 0;
-    while i < WORDS {
+    for i in 0..WORDS {
         if is_end(i, words) {
             break;
         }
         if row[i] != 0 {
             return false;
         }
-        i += 1;
     }
     true
 }
 
 // Whether two rows have a mark in common, of which the second has none but in its first words. All of these are looked at, since a branch for
 // each costs more.
-pub fn meet(row: &[u64; WORDS], other: &[u64; WORDS], words: usize) -> bool
+// Kept: `none_marked` of a row made by `word_by_word` proves, but takes 24 instructions for each endpoint that is weighed in place of 20.
+pub fn meet(row: &Row, other: &Row, words: usize) -> bool
     requires { Narrow words other.now }
     ensures { Meet (marked row.now) (marked other.now) result }
 {
-    all_words(*row);
     let mut common: u64 = 0;
-    let mut i: usize = 0;
-    while i < WORDS {
+    for i in 0..WORDS {
         if is_end(i, words) {
             break;
         }
-        common = common | (row[i] & other[i]);
-        i += 1;
+        common |= row[i] & other[i];
     }
     common != 0
 }
@@ -151,21 +142,15 @@ pub fn no_range() -> Range
 }
 
 // Whether a row marks a location of a range.
-pub fn marks_any(row: &[u64; WORDS], r: Range) -> bool
+pub fn marks_any(row: &Row, r: Range) -> bool
     requires { r.last < marks_max }
     ensures { result ≡ any (marked row.now) (range (r.after + 1) (r.last - r.after)) }
 {
-    let mut v = r.after;
-    while v < r.last {
-        v += 1;
-        if has(row, v) {
-            return true;
-        }
-    }
-    false
+    (r.after..r.last).any(|v| has(row, v + 1))
 }
 
 // The word whose first place is location base, with every location up to v marked.
+// Kept: two early returns, since `if` and `else` as one value take 27 instructions for a word before the range in place of 15.
 fn up_to(base: usize, v: usize) -> u64
     requires { base < marks_max }
     ensures { UpTo base v result }
@@ -174,17 +159,17 @@ fn up_to(base: usize, v: usize) -> u64
         return 0;
     }
     if base + 63 <= v {
-        return 0xffff_ffff_ffff_ffff;
+        return u64::MAX;
     }
     (2 << (v - base)) - 1
 }
 
 // The marks of a word, whose first place is location base, but for those of a range: these are told by their numbers.
+#[tactic(auto, using(crate::proofs::Ranges::left_out))]
 pub fn leave_out(word: u64, base: usize, r: Range) -> u64
     requires { base < marks_max }
     ensures { LeftOut r word base result }
 {
-    let last = up_to(base, r.last);
-    let places = last ^ (last & up_to(base, r.after));
-    word ^ (word & places)
+    let places = up_to(base, r.last) & !up_to(base, r.after);
+    word & !places
 }

@@ -1,42 +1,16 @@
 -- The sums over the endpoints that rows pick, endpoint by endpoint. Assumes nothing.
-use mathlib.Core.Path.{◌≡◌, refl, sym, ◌∙◌}
-use mathlib.Core.Bool.{Bool, true, false, not, ◌&&◌, ◌||◌, and-false, and-true}
+use mathlib.Core.Path.{◌≡◌, refl, ◌∙◌}
+use mathlib.Core.Bool.{Bool, not, ◌&&◌, ◌||◌}
 use mathlib.Core.List.{List, [], map}
 use Prim.Native.Nat.{ℕ, suc, ◌+◌, ◌*◌, ◌≤◌}
 use native.Mathlib.Omega.{arith}
-use native.Mathlib.Nat.{add-zero}
 use lib.ListN.{get_or}
 use Rattle.lists.specs.Lists.{range, on, sum, any}
 use Rattle.lists.proofs.Faults.{on_le}
-use Rattle.rows.specs.Rows.{marked, Meet}
+use Rattle.rows.specs.Rows.{marked}
 use Rattle.picture.specs.Layout.{weight_max}
 use Rattle.weigh.specs.Sums.{Meets, LostRow, LostBetween, sum_between, mark_between}
 use Rattle.weigh.specs.declared.Lost.{Lost}
-
--- two rows have a mark in common or they do not
-pub meet_one : (row other : ℕ → Bool) (f g : Bool) → Meet row other f → Meet row other g → f ≡ g
-meet_one row other true true a b = refl
-meet_one row other true false a b = let m = a.common tt in absurd (b.apart tt m.0 m.1 m.2)
-meet_one row other false true a b = let m = b.common tt in absurd (a.apart tt m.0 m.1 m.2)
-meet_one row other false false a b = refl
-
-module _ {row before after : List ℕ} where
-  -- an endpoint that is served after is not lost
-  pub met_after : Meet (marked row) (marked after) true → LostRow row before after false
-  met_after m = record { same = λ f g a b. rw (meet_one _ _ g true b m, and-false f) }
-
-  -- and any other is lost where it was served before
-  pub met_before : Meet (marked row) (marked after) false → {lost : Bool} → Meet (marked row) (marked before) lost → LostRow row before after lost
-  met_before u {lost} m = record { same = λ f g a b. rw (meet_one _ _ g false b u, and-true f) (meet_one _ _ lost f m a) }
-
--- something is added where an endpoint is lost (`hit`)
-pub added_hit : {hit : Bool} (a v : ℕ) {b : ℕ} → hit ≡ true → b ≡ a + v → b ≡ a + on hit v
-unfolding on
-added_hit a v h e = rw h e
-
-pub added_miss : {hit : Bool} (a v : ℕ) {b : ℕ} → hit ≡ false → b ≡ a → b ≡ a + on hit v
-unfolding on
-added_miss a v h e = rw h (e ∙ sym (add-zero a))
 
 -- what is added of an endpoint that the first test picks and the second does not
 abbrev each : (ℕ → ℕ) → (ℕ → Bool) → (ℕ → Bool) → ℕ → ℕ
@@ -69,33 +43,27 @@ module _ (table : List (List ℕ)) (weights guarded before after : List ℕ) whe
     unfolding range sum
     sum_first w f g a b {s} e = rw (e, here f g a b) (omega arith)
 
-    mark_first : (f g : ℕ → Bool) → Meets table before f → Meets table after g → {m : ℕ} → m ≡ on (any (guards guarded f g) (range (suc (suc c)) k)) 1
-        → on (marked guarded (suc c) && hit) 1 + on (not (marked guarded (suc c) && hit)) m ≡ on (any (guards guarded f g) (range (suc c) (suc k))) 1
+    mark_first : (f g : ℕ → Bool) → Meets table before f → Meets table after g → {m : ℕ}
+        → m ≡ on ((marked guarded (suc c) && hit) || any (guards guarded f g) (range (suc (suc c)) k)) 1 → m ≡ on (any (guards guarded f g) (range (suc c) (suc k))) 1
     unfolding range any
-    mark_first f g a b e = rw (e, here f g a b) (either (guards guarded f g (suc c)) (any (guards guarded f g) (range (suc (suc c)) k)))
-      where
-        either : (t a : Bool) → on t 1 + on (not t) (on a 1) ≡ on (t || a) 1
-        either true true = unfold on in refl
-        either true false = unfold on in refl
-        either false true = unfold on in refl
-        either false false = unfold on in refl
+    mark_first f g a b e = rw (here f g a b) at e
 
     next : (lost lost' : Lost) → Picking table weights guarded before after lost (suc c) k → get_or weights (suc c) 0 ≤ weight_max
         → lost'.weight ≡ lost.weight + on hit (get_or weights (suc c) 0) → lost'.count ≡ lost.count + on hit 1
-        → on (marked guarded (suc c) && hit) 1 + on (not (marked guarded (suc c) && hit)) lost.mark ≡ lost'.mark → Picking table weights guarded before after lost' c (suc k)
+        → ((m : Bool) → lost.mark ≡ on m 1 → lost'.mark ≡ on ((marked guarded (suc c) && hit) || m) 1) → Picking table weights guarded before after lost' c (suc k)
     next lost lost' p h e n m =
         record {
           small = omega (arith, p.small, on_le hit (get_or weights (suc c) 0) weight_max (λ _. h));
           few = omega (arith, p.few, on_le hit 1 1 (λ _. omega arith));
           weighs = λ f g a b. e ∙ sum_first (λ u. get_or weights u 0) f g a b (p.weighs f g a b);
           counts = λ f g a b. n ∙ sum_first (λ _. 1) f g a b (p.counts f g a b);
-          marks = λ f g a b. sym m ∙ mark_first f g a b (p.marks f g a b);
+          marks = λ f g a b. mark_first f g a b (m _ (p.marks f g a b));
         }
 
   pub picking_next : (c c' k k' : ℕ) → c ≡ suc c' → k' ≡ suc k → (hit : Bool) → LostRow (get_or table c []) before after hit → (lost lost' : Lost)
       → Picking table weights guarded before after lost c k → get_or weights c 0 ≤ weight_max
       → lost'.weight ≡ lost.weight + on hit (get_or weights c 0) → lost'.count ≡ lost.count + on hit 1
-      → on (marked guarded c && hit) 1 + on (not (marked guarded c && hit)) lost.mark ≡ lost'.mark → Picking table weights guarded before after lost' c' k'
+      → ((m : Bool) → lost.mark ≡ on m 1 → lost'.mark ≡ on ((marked guarded c && hit) || m) 1) → Picking table weights guarded before after lost' c' k'
   picking_next c c' k k' e n = rw (e, n) (next c' k)
 
   -- every endpoint was looked at

@@ -5,7 +5,7 @@ use mathlib.Core.Bool.{Bool, false, not, ◌&&◌, and-true}
 use mathlib.Core.List.{List, [], map}
 use Prim.Native.Nat.{ℕ, suc, ◌≤◌}
 use lib.Dec.{T, T_not}
-use lib.ListN.{length, get_or}
+use lib.ListN.{get_or}
 use Rattle.lists.specs.Lists.{range, on, sum, any}
 use Rattle.rows.specs.declared.Range.{Range}
 use Rattle.rows.specs.Rows.{marked, linked_in, words_for, Narrow, Meet, locations_max}
@@ -21,9 +21,10 @@ use Rattle.picture.specs.declared.Header.{Header}
 use Rattle.picture.specs.Picture.{Picture, picture_of, endpoint_of}
 use Rattle.picture.specs.Inner.{Read}
 use Rattle.picture.proofs.Facts.{read_limited}
+use Rattle.network.specs.declared.Tables.{Tables}
 use Rattle.network.specs.Words.{endpoint_count, in_block, is_held, held_without, joins, weight_of, Named}
 use Rattle.network.specs.Tests.{marks, served, cut, sum_where, served_weight, weighed}
-use Rattle.network.specs.Rows.{RowsOf, SlotRowsOf, EndpointsOf, block_range}
+use Rattle.network.specs.Rows.{RowsOf, SlotRowsOf, EndpointsOf, TablesOf, block_range}
 use Rattle.network.proofs.Service.{marked_served, served_marked}
 use Rattle.network.proofs.Weights.{weight_small}
 use Rattle.network.proofs.Blocks.{read_slots}
@@ -93,12 +94,11 @@ none_served table row n = record { meet = λ c. record { common = λ t. absurd t
 
 -- ---- the sums
 
--- the rows of an accepted picture are as the sums need them
-pub sums_ready : (bs : List ℕ) (h : Header) → Read bs h → {serves : ℕ → ℕ → Bool} {table : List (List ℕ)} {weights guarded : List ℕ}
-    → {words : ℕ} {before after : List ℕ} → RowsOf (suc endpoints_max) serves table → EndpointsOf (picture_of bs) weights guarded → Narrow words before → Narrow words after
-    → Small weights × (length table ≡ suc endpoints_max) × (h.endpoints ≤ endpoints_max) × Narrow words before × Narrow words after
-sums_ready bs h r t e b a =
-    (record { many = e.many; weight = λ c. rw (e.weight c) (weight_small bs c) }, t.many, (read_limited bs h r).counts.endpoints_most, b, a)
+-- the tables of an accepted picture are as the sums need them
+pub sums_ready : (bs : List ℕ) (h : Header) → Read bs h → {t : Tables} {words : ℕ} {before after : List ℕ} → TablesOf (picture_of bs) t
+    → Narrow words before → Narrow words after → Small t.weights × (h.endpoints ≤ endpoints_max) × Narrow words before × Narrow words after
+sums_ready bs h r t b a =
+    (record { many = t.ends.many; weight = λ c. rw (t.ends.weight c) (weight_small bs c) }, (read_limited bs h r).counts.endpoints_most, b, a)
 
 module _ (p : Picture) (weights guarded : List ℕ) (e : EndpointsOf p weights guarded) (d : ℕ) (many : d ≡ endpoint_count p) (f g : ℕ → Bool) where
   pub between_sum : {w w' : ℕ → ℕ} → ((c : ℕ) → w c ≡ w' c) → sum_between w d f g ≡ sum_where p w' (λ c. f c && not (g c))

@@ -1,33 +1,26 @@
 // Weighing a block: the served weight, the weight that is lost without the block, and whether a protected endpoint is cut.
 #![tactic(auto)]
 
-ghost use Rattle.std.specs.Prelude.{◌≡◌, ◌&&◌, suc, ◌≤◌, ◌<◌, length};
+ghost use Rattle.std.specs.Prelude.{◌≡◌, ◌≤◌, ◌<◌};
 ghost use Rattle.lists.specs.Lists.{outcome};
-ghost use Rattle.rows.specs.Rows.{marked, Narrow, marks_max};
+ghost use Rattle.rows.specs.Rows.{Narrow};
 ghost use Rattle.picture.specs.Picture.{picture_of};
-ghost use Rattle.picture.specs.Inner.{Read};
 ghost use Rattle.picture.specs.Layout.{endpoints_max};
 ghost use Rattle.network.specs.Words.{block_count};
 ghost use Rattle.weigh.specs.Sums.{Small, LostRow, LostBetween};
 ghost use Rattle.weigh.specs.Weighing.{weigh_fault, weights_of, weighing, weight_values, weighing_numbers};
 
-use network::ENDPOINTS;
-use picture::refusals::NO_BLOCK;
-use picture::{Header, Reading};
-use rows::{LOCATIONS, WORDS};
+use network::{ENDPOINTS, Tables};
+use picture::{Picture, Refusal};
+use rows::WORDS;
 
 // What weighing gives.
 #[derive(Clone, Copy)]
 pub struct Weights {
     pub served: u32,
     pub loss: u32,
+    // Kept: a number, 1 or 0, as evidence and the words have it: of a bool each use would make that number again.
     pub mark: u8,
-}
-
-#[derive(Clone, Copy)]
-pub enum Weighing {
-    Weighed(Weights),
-    Refused(u8),
 }
 
 // The weight of some endpoints, how many they are, and 1 if one of them is protected, else 0.
@@ -35,12 +28,9 @@ pub enum Weighing {
 pub struct Lost {
     pub weight: u32,
     pub count: u8,
+    // Kept: a number, as the mark of `Weights`, which takes it over.
     pub mark: u8,
 }
-
-// One word has both sums over endpoints: their weights count in units of this, and what is left is their number, which stays under one unit.
-// A second word in that loop costs time.
-const SUM_UNIT: u32 = 256;
 
 // Whether an endpoint is lost, which the locations of the row serve: none of `after` does, and one of `before` did. Most endpoints are served
 // after as before, so the first look is the only one.
@@ -48,24 +38,11 @@ fn is_lost(row: &[u64; WORDS], before: &[u64; WORDS], after: &[u64; WORDS], word
     requires { Narrow words before.now × Narrow words after.now }
     ensures { LostRow row.now before.now after.now result }
 {
-    if rows::meet(row, after, words) {
-        return false;
-    }
-    rows::meet(row, before, words)
-}
-
-// Whether an endpoint is lost and protected.
-fn is_lost_protected(lost: bool, protected: &[u64; WORDS], c: usize) -> bool
-    requires { c < marks_max }
-    ensures { result ≡ (marked protected.now c && lost) }
-{
-    if lost {
-        return rows::has(protected, c);
-    }
-    false
+    !rows::meet(row, after, words) && rows::meet(row, before, words)
 }
 
 // The endpoints that the locations of `before` serve and those of `after` do not.
+// Kept: the tables one by one and not as `Tables`: from one address the loop reaches all three with a register less, and check takes a tenth longer.
 pub fn lost_between(
     services: &[[u64; WORDS]; ENDPOINTS],
     weights: &[u32; ENDPOINTS],
@@ -75,54 +52,54 @@ pub fn lost_between(
     after: [u64; WORDS],
     words: usize,
 ) -> Lost
-    requires { Small weights.now × (length services.now ≡ suc endpoints_max) × (d ≤ endpoints_max) × Narrow words before × Narrow words after }
+    requires { Small weights.now × (d ≤ endpoints_max) × Narrow words before × Narrow words after }
     ensures { LostBetween services.now weights.now protected d before after result }
 {
-    let mut sum: u32 = 0;
+    let mut weight: u32 = 0;
+    let mut count: u8 = 0;
     let mut mark: u8 = 0;
-    // Down to the first: so the loop has one count to keep.
-    let mut c = d;
-    while 0 < c {
-        let lost = is_lost(&services[c], &before, &after, words);
-        if lost {
-            sum += weights[c] * SUM_UNIT + 1;
+    // Down to the first: so the loop has one count to keep. All that a lost endpoint adds stands under one test, since most are not lost, and the
+    // loop over these then keeps its registers.
+    for c in (1..=d).rev() {
+        if is_lost(&services[c], &before, &after, words) {
+            weight += weights[c];
+            count += 1;
+            if rows::has(&protected, c) {
+                mark = 1;
+            }
         }
-        if is_lost_protected(lost, &protected, c) {
-            mark = 1;
-        }
-        c -= 1;
     }
     Lost {
-        weight: sum / SUM_UNIT,
-        count: (sum % SUM_UNIT) as u8,
+        weight,
+        count,
         mark,
     }
 }
 
 // Weighs a block of an accepted picture.
-pub fn weigh_block(s: &[u8], h: Header, b: usize) -> Weights
-    requires { Read s.now h × (b < block_count (picture_of s.now)) }
-    ensures { result ≡ weights_of (picture_of s.now) b }
+pub fn weigh_block(p: &Picture, b: usize) -> Weights
+    requires { b < block_count (picture_of p.now) }
+    ensures { result ≡ weights_of (picture_of p.now) b }
 {
+    let h = p.header();
     let n = h.slots;
     let size = h.block_size;
     let d = h.endpoints;
     let words = rows::words_for(n);
-    let mut links = [[0u64; WORDS]; LOCATIONS];
-    network::link_rows(s, h, &mut links);
-    let mut services = [[0u64; WORDS]; ENDPOINTS];
-    network::service_link_rows(s, h, &mut services);
-    let mut weights = [0u32; ENDPOINTS];
-    let protected = network::endpoint_rows(s, h, &mut weights);
-    let slots = network::slot_rows(s, h);
+    let mut tables = Tables::empty();
+    tables.fill(p);
+    let slots = network::slot_rows(p);
     let held = slots.held;
-    let before = graph::walk(links, held, n);
-    let after = graph::walk_without(links, held, n, network::block_range(size, b));
+    let before = graph::walk(tables.links, held, n);
+    let after = graph::walk_without(tables.links, held, n, network::block_range(size, b));
     let reached = before.reached;
     let still = after.reached;
     let none = [0u64; WORDS];
-    let all = lost_between(&services, &weights, protected, d, reached, none, words);
-    let lost = lost_between(&services, &weights, protected, d, reached, still, words);
+    let services = &tables.services;
+    let weights = &tables.weights;
+    let protected = tables.protected;
+    let all = lost_between(services, weights, protected, d, reached, none, words);
+    let lost = lost_between(services, weights, protected, d, reached, still, words);
     Weights {
         served: all.weight,
         loss: lost.weight,
@@ -131,17 +108,15 @@ pub fn weigh_block(s: &[u8], h: Header, b: usize) -> Weights
 }
 
 // Weighs block b of a picture of any bytes.
-pub fn weigh(s: &[u8], b: u32) -> Weighing
+pub fn weigh(s: &[u8], b: u32) -> Result<Weights, Refusal>
     ensures answer { result ≡ weighing s.now b }
     ensures numbers { weighing_numbers result ≡ outcome (weigh_fault s.now b) (weight_values (weights_of (picture_of s.now) b)) }
 {
-    match picture::read(s) {
-        Reading::Refused(number) => Weighing::Refused(number),
-        Reading::Accepted(h) => {
-            if h.slots / h.block_size <= b as usize {
-                return Weighing::Refused(NO_BLOCK);
-            }
-            Weighing::Weighed(weigh_block(s, h, b as usize))
-        }
+    let p = Picture::read(s)?;
+    let h = p.header();
+    // Kept: usize has no From<u32>.
+    if h.slots / h.block_size <= b as usize {
+        return Err(Refusal::NoBlock);
     }
+    Ok(weigh_block(&p, b as usize))
 }

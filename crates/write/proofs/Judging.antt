@@ -1,6 +1,5 @@
 -- What the code judges, by the first columns of the lists, is what the specification judges. Assumes nothing.
 use mathlib.Core.Path.{◌≡◌, refl, sym, ap, ◌∙◌}
-use mathlib.Core.Bool.{true, false}
 use mathlib.Core.List.{List, [], ◌∷◌, map}
 use Prim.Native.Nat.{ℕ, ◌≤◌}
 use lib.ListN.{length, length-map}
@@ -9,13 +8,13 @@ use Rattle.lists.proofs.Zips.{length_zip, map_zip_first}
 use Rattle.picture.specs.declared.Header.{Header}
 use Rattle.picture.specs.Layout.{picture_max, size_of}
 use Rattle.picture.specs.Inner.{Limited}
-use Rattle.picture.specs.Faults.{sizes_right, state_fault, list_faults}
+use Rattle.picture.specs.Faults.{link_fault, service_link_fault, sizes_right, state_fault, list_faults}
 use Rattle.write.specs.Columns.{Lists, slot_from, endpoint_from, link_from, picture_from, header_for}
 use Rattle.picture.proofs.Editions.{known_for}
 use Rattle.picture.proofs.Long.{size_small}
 use Rattle.write.specs.Rules.{size_for}
 use Rattle.write.specs.Faults.{write_fault}
-use Rattle.write.specs.Inner.{columns_header, pair_fault}
+use Rattle.write.specs.Inner.{columns_header}
 use Rattle.write.proofs.Right.{edition_in, header_from, Right}
 use Rattle.write.proofs.Judged.{write_right}
 
@@ -23,8 +22,8 @@ use Rattle.write.proofs.Judged.{write_right}
 abbrev pub column_faults : Lists → Header → List ℕ
 column_faults l h =
     first (map state_fault l.states)
-    ∷ first (map (pair_fault h.slots h.endpoints false) (map link_from l.links))
-    ∷ first (map (pair_fault h.slots h.endpoints true) (map link_from l.service_links))
+    ∷ first (map (link_fault h.slots) (map link_from l.links))
+    ∷ first (map (service_link_fault h.slots h.endpoints) (map link_from l.service_links))
     ∷ []
 
 module _ (l : Lists) (slots : length l.states ≡ length l.near) where
@@ -47,7 +46,7 @@ module _ (l : Lists) (slots : length l.states ≡ length l.near) where
         }
 
     pub lists_even : column_faults l (columns_header l) ≡ list_faults (header_from l) (picture_from l)
-    unfolding list_faults pair_fault
+    unfolding list_faults
     lists_even =
         let states = map_zip_first slot_from (λ s. state_fault s.state) state_fault (λ x b. unfold slot_from in refl) l.states l.near slots in
         ap (column_faults l) header_even ∙ unfold picture_from in rw states

@@ -4,6 +4,7 @@ pub mod Fields
 pub mod Judged
 pub mod Reading
 pub mod Trips
+pub mod Tails
 pub mod Rows
 pub mod Judging
 pub mod Making

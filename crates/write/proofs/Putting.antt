@@ -2,11 +2,10 @@
 use mathlib.Core.Path.{◌≡◌, sym, ap, ap₂, ◌∙◌}
 use mathlib.Core.Bool.{false}
 use mathlib.Core.List.{List, [], ◌++◌, map}
-use Prim.Native.Nat.{ℕ, suc, ◌+◌, ◌*◌, ◌%◌, ◌^◌, ◌≤◌, ◌<◌, zero-le, suc-le-suc}
+use Prim.Native.Nat.{ℕ, suc, ◌+◌, ◌*◌, ◌^◌, ◌≤◌, ◌<◌, zero-le, suc-le-suc}
 use native.Mathlib.Omega.{arith}
 use native.Mathlib.Nat.{add-zero}
 use lib.ListN.{length, get_or, drop, length-map, get_or-map}
-use lib.Pow.{pow_pos}
 use Rattle.lists.specs.Lists.{sum, item}
 use Rattle.lists.proofs.Zips.{length_zip, get_d_zip}
 use Rattle.picture.specs.declared.Edition.{Edition}
@@ -22,6 +21,7 @@ use Rattle.write.specs.Columns.{Lists, slot_from, link_from, picture_from, heade
 use Rattle.write.specs.Fields.{picture_bytes}
 use Rattle.write.specs.Rules.{size_for}
 use Rattle.write.specs.Answers.{bytes_for}
+use Rattle.write.specs.declared.tail.Tail.{Tail}
 use Rattle.write.specs.Inner.{columns_header, SlotsFit, EndpointsFit, LinksFit, HeaderFits, Ready, Written}
 use Rattle.write.proofs.Right.{edition_in, header_from, Right}
 use Rattle.write.proofs.Judged.{handed_right}
@@ -117,36 +117,37 @@ module _ {l : Lists} {h : Header} {buf : List ℕ} (r : Ready l h buf) where
         let o = ordered h ready_limited in
         header_room ready_makes same (rw ready_header (header_fits p (known_for l.edition) right.sizes (unfold picture_from in right.near_limit_lem) right.counts)) (omega (arith, slots_to, o))
 
-    pub slots_ready : SlotsFit (slots_at h.edition) 0 l.states l.near mid
-    slots_ready =
-        let o = ordered h ready_limited in
-        record { even = right.slots_even; state = states_small; room = part_room ready_makes same (omega (arith, slots_to, o)) (pow_pos _) }
+    module _ {from : Tail} where
+      pub slots_ready : from.at ≡ slots_at h.edition → SlotsFit from l.states l.near mid
+      slots_ready at =
+          let o = ordered h ready_limited in
+          record { even = right.slots_even; state = states_small; room = part_room ready_makes same (omega (arith, at, slots_to, o)) }
 
-    pub endpoints_ready : {held : ℕ} → held < 2 ^ (endpoints_at h % 8) → EndpointsFit (endpoints_at h) held l.weights l.protected mid
-    endpoints_ready few =
-        let o = ordered h ready_limited in
-        record { even = right.endpoints_even; room = part_room ready_makes same (omega (arith, endpoints_to, o)) few }
+      pub endpoints_ready : from.at ≡ endpoints_at h → EndpointsFit from l.weights l.protected mid
+      endpoints_ready at =
+          let o = ordered h ready_limited in
+          record { even = right.endpoints_even; room = part_room ready_makes same (omega (arith, at, endpoints_to, o)) }
 
-    pub links_ready : {held : ℕ} → held < 2 ^ (links_at h % 8) → LinksFit (links_at h) held h.edition.location_bits h.edition.location_bits l.links mid
-    unfolding picture_from
-    links_ready small =
-        let o = ordered h ready_limited in
-        record {
-          wide = omega (arith, (few h ready_limited).bits);
-          from = link_end l.links (λ k. k.from) right.links.from slots_small;
-          to = link_end l.links (λ k. k.to) right.links.to slots_small;
-          room = part_room ready_makes same (omega (arith, links_to, o)) small;
-        }
+      pub links_ready : from.at ≡ links_at h → LinksFit from h.edition.location_bits h.edition.location_bits l.links mid
+      unfolding picture_from
+      links_ready at =
+          let o = ordered h ready_limited in
+          record {
+            wide = omega (arith, (few h ready_limited).bits);
+            start = link_end l.links (λ k. k.from) right.links.from slots_small;
+            end = link_end l.links (λ k. k.to) right.links.to slots_small;
+            room = part_room ready_makes same (omega (arith, at, links_to, o));
+          }
 
-    pub services_ready : {held : ℕ} → held < 2 ^ (service_links_at h % 8) → LinksFit (service_links_at h) held h.edition.location_bits 8 l.service_links mid
-    unfolding picture_from
-    services_ready small =
-        record {
-          wide = omega (arith, (few h ready_limited).bits);
-          from = link_end l.service_links (λ k. k.from) right.service_links.location slots_small;
-          to = link_end l.service_links (λ k. k.to) right.service_links.endpoint_most (omega (arith, right.counts.endpoints_most));
-          room = part_room ready_makes same (omega (arith, services_to)) small;
-        }
+      pub services_ready : from.at ≡ service_links_at h → LinksFit from h.edition.location_bits 8 l.service_links mid
+      unfolding picture_from
+      services_ready at =
+          record {
+            wide = omega (arith, (few h ready_limited).bits);
+            start = link_end l.service_links (λ k. k.from) right.service_links.location slots_small;
+            end = link_end l.service_links (λ k. k.to) right.service_links.endpoint_most (omega (arith, right.counts.endpoints_most));
+            room = part_room ready_makes same (omega (arith, at, services_to));
+          }
 
   -- ---- the parts one behind the other, and the fill
 

@@ -30,7 +30,8 @@ use Rattle.write.specs.Columns.{Lists, Typed, slot_from, endpoint_from, link_fro
 use Rattle.write.specs.Fields.{picture_fields, picture_bytes}
 use Rattle.write.specs.Rules.{size_for}
 use Rattle.write.specs.Faults.{write_fault}
-use Rattle.write.specs.Answers.{writing, writing_of, writing_numbers, filled, bytes_for, written_bytes}
+use Rattle.picture.specs.Refusals.{answer_of, answer_numbers}
+use Rattle.write.specs.Answers.{writing, filled, bytes_for, written_bytes}
 use Rattle.write.specs.Trips.{written_picture, ReadsBack, WritesBack}
 use Rattle.write.proofs.Right.{edition_in, header_from, Right}
 use Rattle.write.proofs.Fields.{span_picture, length_picture, Proper, picture_fits}
@@ -202,7 +203,7 @@ module _ (bs : List ℕ) (z : picture_fault bs ≡ 0) where
       sym (whole ∙ rw (drop-length bs, append-nil))
 
 pub read_writes : (bs buf : List ℕ) → Bytes bs → picture_fault bs ≡ 0 → length bs ≤ length buf → WritesBack bs buf
-unfolding writing writing_of writing_numbers written_bytes filled bytes_for
+unfolding writing answer_of answer_numbers written_bytes filled bytes_for
 read_writes bs buf b z m =
     let w : write_fault (lists_in bs) buf ≡ 0 = right_write (lists_in bs) buf (right bs z) (omega (arith, size_same bs z)) in
     record { number = rw (w, size_same bs z); bytes = rw (w, size_same bs z, own_bytes bs z b) }

@@ -11,4 +11,5 @@ pub mod Trips
 -- that is broken, or 0 where all of them hold
 pub mod Faults
 -- Serves inner contracts alone: what the functions that write ask
+pub mod Tails
 pub mod Inner

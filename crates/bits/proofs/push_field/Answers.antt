@@ -12,7 +12,7 @@ loop-left-init c = push_begun (λ j. (c.type_inv.s j).fits)
 pub loop-left-preserved : goal.loop-left-preserved
 loop-left-preserved c =
     let room : c.loop-left.k < length c.loop-left.s = omega (arith, pushing_long c.loop-left.invariant, c.loop-left.invariant.place, c.requires.room) in
-    push_next c.loop-left.invariant c.loop-left-test.true room c.store.ensures (λ j. (c.type_inv.s j).fits)
+    push_next c.loop-left.invariant c.loop-left-test.true room
 
 pub returns : goal.returns
 returns c =

@@ -1,13 +1,17 @@
--- `check` tells the number of the first fault. Assumes nothing.
-use Rattle.picture.proofs.Answering.{accepted_read, refused_fault}
-use Rattle.checker.proofs.Answering.{check_picture, told_refused}
+-- `check` tells the first fault. Assumes nothing.
+use Rattle.std.proofs.lemmas.Result.{err_from_is_err_and}
+use Rattle.picture.proofs.Refusing.{answered_err, numbers_err, judged_answer, judged_numbers}
+use Rattle.checker.specs.Answers.{checking}
+use Rattle.checker.proofs.Answering.{check_picture}
 use Rattle.checker.proofs.check.Goals as goal
 
-pub evidence_fault-fault-requires : goal.evidence_fault-fault-requires
-evidence_fault-fault-requires c = accepted_read _ _ c.in-Accepted.ensures.answer
+pub returns-in_err-p : goal.returns-in_err-p
+unfolding checking
+returns-in_err-p c =
+    let p = err_from_is_err_and c.from_residual.result c.from_residual.ensures.1 in
+    let k = check_picture _ c.args.ev.now _ c.in_err-p.ensures in
+    rw (p.1, p.2) (record { answer = answered_err _ _ k; numbers = numbers_err _ _ _ k })
 
-pub returns-in-Refused : goal.returns-in-Refused
-returns-in-Refused c =
-    let all = let r = refused_fault _ _ c.in-Refused.ensures.answer in
-    told_refused _ _ _ r.1 (check_picture _ _ r) in
-    record { answer = all.0; numbers = all.1.0; refusals = all.1.1 }
+pub returns : goal.returns
+unfolding checking
+returns c = let told = rw c.in_ok-p.ensures.0 at c.judge.ensures in record { answer = judged_answer _ told; numbers = judged_numbers _ told }

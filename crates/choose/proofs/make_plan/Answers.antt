@@ -13,32 +13,32 @@ use Rattle.evidence.proofs.Fields.{candidates_few}
 use Rattle.choose.proofs.make_plan.Goals as goal
 use Rattle.choose.proofs.make_plan.Goals.{After-count_candidates-count}
 
-counted : (c : After-count_candidates-count) → c.count_candidates-count.result ≡ length (candidates (picture_of c.args.s.now))
+counted : (c : After-count_candidates-count) → c.count_candidates-count.result ≡ length (candidates (picture_of c.args.p.now))
 counted c =
-    let r = c.requires in
+    let r = c.header-h.ensures in
     let slots = c.slot_rows-slots.ensures in
     c.count_candidates-count.ensures ∙ ap length (marked_candidates slots (read_block_size _ _ r) (sym (read_blocks _ _ r)))
 
 pub nonzero_div-n : goal.nonzero_div-n
-nonzero_div-n c = omega (arith, (read_sizes _ _ c.requires).size_some)
+nonzero_div-n c = omega (arith, (read_sizes _ _ c.header-h.ensures).size_some)
 
 pub count_candidates-count-requires : goal.count_candidates-count-requires
 count_candidates-count-requires c =
-    let h = c.args.h in
-    omega (arith, read_slots_most _ _ c.requires, div-mul-le_self h.slots h.block_size)
+    let h = c.header-h.result in
+    omega (arith, read_slots_most _ _ c.header-h.ensures, div-mul-le_self h.slots h.block_size)
 
 pub evidence_bytes-length-requires : goal.evidence_bytes-length-requires
 evidence_bytes-length-requires c =
-    let r = c.requires in
+    let r = c.header-h.ensures in
     (read_limited _ _ r, omega (arith, counted (goal.at.evidence_bytes-length-requires c).After-count_candidates-count, candidates_few _ r.accepted))
 
 pub returns : goal.returns
 unfolding length_for
 returns c =
+    let r = c.header-h.ensures in
+    let count = counted (goal.at.returns c).After-count_candidates-count in
     record {
       slots = c.slot_rows-slots.ensures;
-      counted = counted (goal.at.returns c).After-count_candidates-count;
-      long =
-          rw
-          (c.evidence_bytes-length.ensures, ← read_slots _ _ c.requires, ← read_edition _ _ c.requires, counted (goal.at.returns c).After-count_candidates-count);
+      counted = count;
+      long = rw (c.evidence_bytes-length.ensures, ← read_slots _ _ r, ← read_edition _ _ r, count);
     }

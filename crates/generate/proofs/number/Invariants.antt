@@ -1,10 +1,7 @@
 -- `number` reads an argument. Assumes nothing.
-use Rattle.std.proofs.Common.{length, ◌-◌}
-use Rattle.generate.proofs.Arguments.{Reading}
+use Rattle.std.proofs.Common.{◌≡◌, drop}
+use Rattle.generate.specs.Arguments.{read_on, given}
 use Rattle.generate.proofs.number.Given as goal
 
-abbrev pub invariant-loop-i : goal.invariant-loop-i
-invariant-loop-i l = Reading l.text l.i l.n
-
-abbrev pub decreases-loop-i : goal.decreases-loop-i
-decreases-loop-i l = length l.text - l.i
+abbrev pub invariant-loop-c : goal.invariant-loop-c
+invariant-loop-c l = given l.text ≡ read_on l.n (drop l.c-index l.text)

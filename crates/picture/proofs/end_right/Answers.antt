@@ -1,5 +1,5 @@
 -- `end_right` tests the fill bits and the end. Assumes nothing.
-use mathlib.Core.Path.{◌≡◌, sym, ap, ap₂, ◌∙◌}
+use mathlib.Core.Path.{◌≡◌, refl, sym, ap, ap₂, ◌∙◌}
 use native.Mathlib.Omega.{arith}
 use Prim.Native.Nat.{ℕ, ◌+◌, ◌-◌, ◌*◌, ◌^◌, ◌≤◌, ◌<◌}
 use lib.Dec.{eqb}
@@ -48,11 +48,12 @@ overflow_sub-size c = omega (arith, sized (goal.at.overflow_sub-size c).After-fi
 pub field-requires : goal.field-requires
 field-requires c = omega (arith, sized (goal.at.field-requires c).After-find_places-end)
 
-pub returns-then-field-ne0 : goal.returns-then-field-ne0
+pub returns-then-field-eq0 : goal.returns-then-field-eq0
 unfolding end_right
-returns-then-field-ne0 c = rw (ne_eqb _ _ (λ z. c.if-field-ne0.true (fill (goal.at.returns-then-field-ne0 c).After-field ∙ z)))
+returns-then-field-eq0 c =
+    rw (eq-eqb _ _ (sym (fill (goal.at.returns-then-field-eq0 c).After-field) ∙ c.if-field-eq0.true)) (ap (eqb _) (sized (goal.at.returns-then-field-eq0 c).After-find_places-end).size)
 
-pub returns : goal.returns
+pub returns-else-field-eq0 : goal.returns-else-field-eq0
 unfolding end_right
-returns c =
-    rw (eq-eqb _ _ (sym (fill (goal.at.returns c).After-field) ∙ c.if-field-ne0.false)) (ap (eqb _) (sized (goal.at.returns c).After-find_places-end).size)
+returns-else-field-eq0 c =
+    rw (ne_eqb _ _ c.if-field-eq0.false, ne_eqb _ _ (λ z. c.if-field-eq0.false (fill (goal.at.returns-else-field-eq0 c).After-field ∙ z))) refl

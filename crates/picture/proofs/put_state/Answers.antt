@@ -1,8 +1,6 @@
 -- `put_state` writes a slot's first field. Assumes nothing.
-use mathlib.Core.Path.{ap, ◌∙◌}
 use Prim.Native.Nat.{ℕ, ◌+◌, ◌-◌, ◌*◌, ◌^◌, ◌≤◌, ◌<◌}
 use native.Mathlib.Omega.{arith}
-use Rattle.bits.specs.Bits.{put_field}
 use Rattle.lists.specs.Lists.{sum}
 use Rattle.picture.specs.declared.Header.{Header}
 use Rattle.picture.specs.Layout.{slot_widths, state_bits, slots_at, endpoints_at, size_of}
@@ -20,8 +18,3 @@ pub put_field-requires : goal.put_field-requires
 put_field-requires c =
     let p = c.requires in
     omega (arith, c.slot_at.ensures, slot_fits _ p.0 _ _ p.1 p.2 p.3)
-
-pub returns : goal.returns
-returns c =
-    let a = c.args in
-    c.put_field.ensures ∙ ap (λ (p : ℕ). put_field a.s.now p state_bits a.state) c.slot_at.ensures

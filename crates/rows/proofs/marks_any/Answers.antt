@@ -1,22 +1,11 @@
 -- `marks_any` looks for a marked location of a range. Assumes nothing.
-use Rattle.std.proofs.Common.{◌≡◌, ◌+◌, ◌-◌, sym, ◌∙◌, arith}
-use Rattle.lists.proofs.Scans.{none_begun, none_more, some_found}
+use Rattle.std.proofs.Common.{◌+◌, ◌-◌, ◌∙◌, refl, rules, tests}
+use Rattle.lists.proofs.Chains.{any_ranged}
+use Rattle.rows.specs.Rows.{marked}
+use Rattle.rows.proofs.Ranges.{any_next}
 use Rattle.rows.proofs.marks_any.Goals as goal
 
-pub loop-v-init : goal.loop-v-init
-loop-v-init c = let z : c.args.r.after - c.args.r.after ≡ 0 = omega arith in (omega arith, omega arith, rw z (none_begun _ _))
-
-pub returns-then-has : goal.returns-then-has
-returns-then-has c =
-    let l = c.loop-v in
-    let a = c.args.r in
-    let e : a.after + 1 + (l.v - a.after) ≡ l.v + 1 = omega (arith, l.invariant.0) in
-    some_found _ _ (l.v - a.after) _ (omega (arith, l.invariant.0)) (rw e (sym c.has.ensures ∙ c.if-has.true))
-
-pub loop-v-preserved : goal.loop-v-preserved
-loop-v-preserved c =
-    let l = c.loop-v in
-    let a = c.args.r in
-    let e : a.after + 1 + (l.v - a.after) ≡ l.v + 1 = omega (arith, l.invariant.0) in
-    let n : l.v + 1 - a.after ≡ l.v - a.after + 1 = omega (arith, l.invariant.0) in
-    (omega (arith, l.invariant.0), omega (arith, l.invariant.0), rw n (none_more _ _ (l.v - a.after) l.invariant.2 (rw e (sym c.has.ensures ∙ c.if-has.false))))
+pub returns : goal.returns
+returns c =
+    any_ranged (λ v. marked c.args.row.now (v + 1)) c.args.r.after _ c.any.ensures.ran refl refl (λ x b q k. search (rules, tests))
+    ∙ any_next (marked c.args.row.now) c.args.r.after (c.args.r.last - c.args.r.after)

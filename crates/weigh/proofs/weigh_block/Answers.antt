@@ -1,14 +1,11 @@
 -- `weigh_block` weighs a block of an accepted picture. Assumes nothing.
-use Prim.Native.Nat.{ℕ, suc}
-use Rattle.rows.specs.Rows.{marked, Narrow, locations_max, row_words}
+use Prim.Native.Nat.{ℕ}
+use Rattle.rows.specs.Rows.{marked, Narrow, row_words}
 use Rattle.graph.specs.Steps.{Walked}
-use Rattle.picture.specs.Layout.{endpoints_max}
 use Rattle.picture.specs.Picture.{Picture, picture_of}
 use Rattle.network.specs.Words.{is_held, held_without, joins}
-use Rattle.network.specs.Rows.{RowsOf}
 use Rattle.network.proofs.Named.{accepted_named}
 use Rattle.network.proofs.Blocks.{read_block_size, read_endpoints, read_block}
-use Rattle.network.proofs.Making.{clear_made}
 use Rattle.rows.proofs.Marks.{clear, clear_narrow}
 use Rattle.weigh.specs.Weighing.{weights_of}
 use Rattle.weigh.proofs.Serving.{now_walked, left_walked, slots_only_lem, walk_narrow, sums_ready, walk_meets, served_met, loss_met, mark_met}
@@ -17,67 +14,58 @@ use Rattle.weigh.proofs.weigh_block.Goals.{After-walk-before, After-walk_without
 
 -- the picture and the block
 abbrev shown : After-walk-before → Picture
-shown c = picture_of c.args.s.now
+shown c = picture_of c.args.p.now
 
 abbrev evicted : After-walk-before → ℕ
 evicted c = c.args.b
 
-pub link_rows-requires : goal.link_rows-requires
-link_rows-requires c = (c.requires.0, clear_made locations_max)
-
-pub service_link_rows-requires : goal.service_link_rows-requires
-service_link_rows-requires c = (c.requires.0, clear_made (suc endpoints_max))
-
 pub walk-before-requires : goal.walk-before-requires
-walk-before-requires c = slots_only_lem c.requires.0 c.slot_rows-slots.ensures
+walk-before-requires c = slots_only_lem c.header-h.ensures c.slot_rows-slots.ensures
 
 pub block_range-requires : goal.block_range-requires
-block_range-requires c = read_block _ _ c.requires.0 _ c.requires.1
+block_range-requires c = read_block _ _ c.header-h.ensures _ c.requires
 
 pub walk_without-after-requires : goal.walk_without-after-requires
-walk_without-after-requires c = slots_only_lem c.requires.0 c.slot_rows-slots.ensures
+walk_without-after-requires c = slots_only_lem c.header-h.ensures c.slot_rows-slots.ensures
 
 -- both walks are walks over the picture
-links : (c : After-walk-before) → RowsOf locations_max (joins (shown c).links) c.link_rows.new.table
-links c = c.link_rows.ensures
-
 now : (c : After-walk-before) → let r = c.walk-before.result in
     Walked (joins (shown c).links) (is_held (shown c)) (marked r.reached) r.parent r.depth
-now c = now_walked c.slot_rows-slots.ensures (links c) c.walk-before.ensures
+now c = now_walked c.slot_rows-slots.ensures c.fill.ensures.links c.walk-before.ensures
 
 left : (c : After-walk_without-after) → let r = c.walk_without-after.result in
     Walked (joins (shown (goal.at.After-walk_without-after c).After-walk-before).links)
     (held_without (shown (goal.at.After-walk_without-after c).After-walk-before) (evicted (goal.at.After-walk_without-after c).After-walk-before))
     (marked r.reached) r.parent r.depth
 left c =
-    left_walked c.slot_rows-slots.ensures (links (goal.at.After-walk_without-after c).After-walk-before)
-    (evicted (goal.at.After-walk_without-after c).After-walk-before) (read_block_size _ _ c.requires.0)
+    left_walked c.slot_rows-slots.ensures c.fill.ensures.links
+    (evicted (goal.at.After-walk_without-after c).After-walk-before) (read_block_size _ _ c.header-h.ensures)
     (rw c.block_range.ensures at c.walk_without-after.ensures)
 
 -- what the walks reach is in the words that the header's slots take
 narrow : (c : After-walk-before) → Narrow c.words_for-words.result c.walk-before.result.reached
-narrow c = walk_narrow c.requires.0 c.slot_rows-slots.ensures _ c.words_for-words.ensures c.walk-before.ensures
+narrow c = walk_narrow c.header-h.ensures c.slot_rows-slots.ensures _ c.words_for-words.ensures c.walk-before.ensures
 
 narrow_left : (c : After-walk_without-after) → Narrow c.words_for-words.result c.walk_without-after.result.reached
 narrow_left c =
-    walk_narrow c.requires.0 c.slot_rows-slots.ensures _ c.words_for-words.ensures c.walk_without-after.ensures
+    walk_narrow c.header-h.ensures c.slot_rows-slots.ensures _ c.words_for-words.ensures c.walk_without-after.ensures
 
 pub lost_between-all-requires : goal.lost_between-all-requires
 lost_between-all-requires c =
-    sums_ready _ _ c.requires.0 c.service_link_rows.ensures c.endpoint_rows-protected.ensures (narrow (goal.at.lost_between-all-requires c).After-walk-before)
+    sums_ready _ _ c.header-h.ensures c.fill.ensures (narrow (goal.at.lost_between-all-requires c).After-walk-before)
     (clear_narrow row_words (narrow (goal.at.lost_between-all-requires c).After-walk-before).most)
 
 pub lost_between-lost-requires : goal.lost_between-lost-requires
 lost_between-lost-requires c =
-    sums_ready _ _ c.requires.0 c.service_link_rows.ensures c.endpoint_rows-protected.ensures (narrow (goal.at.lost_between-lost-requires c).After-walk-before)
+    sums_ready _ _ c.header-h.ensures c.fill.ensures (narrow (goal.at.lost_between-lost-requires c).After-walk-before)
     (narrow_left (goal.at.lost_between-lost-requires c).After-walk_without-after)
 
 pub returns : goal.returns
 unfolding weights_of
 returns c =
-    let services = c.service_link_rows.ensures in
-    let ends = c.endpoint_rows-protected.ensures in
-    let read = c.requires.0 in
+    let services = c.fill.ensures.services in
+    let ends = c.fill.ensures.ends in
+    let read = c.header-h.ensures in
     let named = accepted_named _ read.accepted in
     let count = read_endpoints _ _ read in
     let all = c.lost_between-all.ensures in
