@@ -47,6 +47,8 @@ fn is_changed(p: &Picture, a: Act, v: usize) -> bool
 }
 
 // Whether the act changes a slot of block b.
+// Kept: here and below, a picture beside the number of a block or a slot, which it has by a clause: the definitions that the clauses name take
+// both, and a struct of them would be taken apart in each.
 #[tactic(auto, using(crate::proofs::Headers::read_within))]
 fn changes(p: &Picture, a: Act, b: usize) -> bool
     requires { b < block_count (picture_of p.now) }
@@ -119,6 +121,7 @@ fn judge_block_cut(p: &Picture, b: usize) -> Result<(), Refusal>
 }
 
 // The same of an act: a free cuts where an evict would, and a reload cuts nothing.
+// Kept: with one arm for both weighing is compiled into the act, and a reload then takes 33,272 bytes of stack in place of 4,520.
 #[tactic(auto, unfolding(crate::specs::Faults::cut_fault))]
 fn judge_cut(p: &Picture, a: Act, b: usize) -> Result<(), Refusal>
     requires { b < block_count (picture_of p.now) }
@@ -151,9 +154,8 @@ fn judge_near(p: &Picture, a: Act, b: usize) -> Result<(), Refusal>
     ensures { fault_of result ≡ near_fault a (picture_of p.now) b }
 {
     match a {
-        Act::Evict => Ok(()),
         Act::Reload => judge_block_near(p, b),
-        Act::Free => Ok(()),
+        Act::Evict | Act::Free => Ok(()),
     }
 }
 

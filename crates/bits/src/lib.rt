@@ -17,6 +17,7 @@ fn four_bytes(s: &[u8], k: usize) -> usize
 }
 
 // The same where the slice ends within them: what is not there counts as zeros.
+// Kept: beside the one above, since nearly every field lies before the end and needs none of these tests.
 fn last_bytes(s: &[u8], k: usize) -> usize
     requires { k < 2 ^ 62 }
     ensures { result ≡ field_at s.now (k * 8) 32 }
@@ -53,7 +54,7 @@ fn put_in_byte(s: &mut [u8], p: usize, w: usize, v: usize)
     let b = usize::from(s[k]);
     let old = (b >> below) & mask;
     let new = b - (old << below) + ((v & mask) << below);
-    // Kept: u8 has no From<usize>, and try_from asks for an error that cannot be; so below.
+    // Kept: u8 has no From<usize>, and `try_from` with `unwrap` says no more; so below.
     s[k] = (new % 256) as u8;
 }
 
@@ -92,11 +93,7 @@ pub fn put_bytes(s: &mut [u8], k: usize, count: usize, v: usize)
     requires { (k + count ≤ length s.old) × (2 ≤ count) × (count ≤ 3) }
     ensures { s.new ≡ put_field s.old (k * 8) (count * 8) v }
 {
-    if 2 < count {
-        s[k..k + 3].copy_from_slice(&v.to_be_bytes()[5..]);
-    } else {
-        s[k..k + 2].copy_from_slice(&v.to_be_bytes()[6..]);
-    }
+    s[k..k + count].copy_from_slice(&v.to_be_bytes()[8 - count..]);
 }
 
 // The field of w bits behind what is written up to bit p, of which the last p % 8 bits are held and stand in no byte yet. Whole bytes are

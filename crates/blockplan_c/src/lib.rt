@@ -19,6 +19,7 @@ ghost use Rattle.blockplan_c.specs.Answers.{to_c, WritesForC};
 use picture::Refusal;
 
 // A refusal is minus its number.
+// Kept: one i32 for a length and for a refusal, the form that C gets.
 fn refusal(number: u8) -> i32
     ensures number { result ≡ neg_ℤ (pos number) }
     ensures fits { SFits w32 result }

@@ -2,11 +2,10 @@
 use mathlib.Core.Path.{◌≡◌, sym, ◌∙◌}
 use mathlib.Core.Bool.{true, false, not, not-not}
 use mathlib.Core.List.{List, [], ◌∷◌, ◌++◌, map, map-id}
-use Prim.Native.Nat.{ℕ, suc, ◌≤◌}
+use Prim.Native.Nat.{ℕ, suc}
 use native.Mathlib.Omega.{arith}
 use lib.Dec.{eqb}
-use lib.ListN.{length, get_or, take}
-use Rattle.std.proofs.lemmas.List.{length-take-le, get_or-take}
+use lib.ListN.{length, get_or}
 use Rattle.lists.specs.Lists.{range, on, first}
 use Rattle.lists.proofs.Ranges.{length_range, map_shift}
 use Rattle.lists.proofs.Faults.{on_zero, first_zero, first_in, first_map_none}
@@ -26,7 +25,6 @@ use Rattle.network.proofs.Blocks.{read_slots}
 use Rattle.evidence.specs.Canonical.{weighings}
 use Rattle.evidence.specs.Contents.{head_in, first_forest}
 use Rattle.evidence.specs.Checks.{forest_right, form_right, section_fault, verdict_right, check_fault}
-use Rattle.evidence.proofs.Fields.{candidates_few}
 use Rattle.evidence.proofs.Judging.{numbers_test, test_numbers, right_form}
 use Rattle.evidence.proofs.Weighings.{weighings_length, weighing_at, weighings_made}
 use Rattle.checker.specs.Forests.{part_fault, parts_fault, CutsOf}
@@ -72,19 +70,18 @@ module _ (bs ev : List ℕ) where
 
       module _ (none : 0 ≡ parts_fault bs ev) where
         -- what the sections state is what the candidates weigh
-        pub stated_weighings : {count : ℕ} {cuts : List ℕ} → count ≡ length (candidates p) → CutsOf p cuts count → stated h.edition h.slots ev (take count cuts) ≡ weighings p
+        pub stated_weighings : {cuts : List ℕ} → CutsOf p cuts → stated h.edition h.slots ev cuts ≡ weighings p
         unfolding stated cost_in part_fault parts_fault section_fault numbers_test
-        stated_weighings {count = count} {cuts = cuts} counted few =
-            let enough : count ≤ length cuts = omega (arith, candidates_few bs r.accepted, few.many) in
-            rw (length-take-le count cuts enough, ← read_slots bs h r, read_edition bs h r, counted)
-            (weighings_made p (λ w. w) (cost_in (edition_of bs) (slot_count p) ev (take (length (candidates p)) cuts))
+        stated_weighings {cuts = cuts} numbers =
+            rw (← read_slots bs h r, read_edition bs h r, numbers.many)
+            (weighings_made p (λ w. w) (cost_in (edition_of bs) (slot_count p) ev cuts)
             (λ i l.
             let w = weighed p (get_or (candidates p) i 0) in
             let y = first_map_none (part_fault bs ev) 0 (parts bs) (sym none) (suc i) (rw length_range (omega arith)) in
             let z = rw (part_of, weighing_at p i l) at y in
             let m = test_numbers (edition_of bs) p ev i w (rw not-not at (on_zero (not (numbers_test (edition_of bs) p ev i w)) 14 (first_zero _ z 1))) in
             let b = (right_form (edition_of bs) p ev (rw f tt)).blocks i l ∙ sym (weighed_block p (get_or (candidates p) i 0)) in
-            λ j. record { block = b j; loss = m.0 j; cuts = (get_or-take (length (candidates p)) cuts i 0 l ∙ few.same i (omega (arith, counted))) j; mark = m.1 j }) ∙ map-id (weighings p))
+            λ j. record { block = b j; loss = m.0 j; cuts = numbers.same i (omega (arith, numbers.many)) j; mark = m.1 j }) ∙ map-id (weighings p))
 
         -- the verdict is wrong, or nothing is
         pub check_verdict : verdict_right ev (weighings p) ≡ false → 16 ≡ check_fault bs ev

@@ -135,9 +135,10 @@ pub record Gone (x : Given) (row : List ℕ) (k : ℕ) : Type 0 where
   pub reached : 1 ≤ k → Serves x (is_held (pic x)) row
   pub narrow : Narrow x.words row
 
--- how many endpoints the blocks of the sections before part k cut
-abbrev pub Counted : Given → List ℕ → ℕ → Type 0
-Counted x cuts k = CutsOf (pic x) cuts (k - 1)
+-- for each section, at its place, a number: those before part k have how many endpoints their blocks cut
+pub record Counted (x : Given) (cuts : List ℕ) (k : ℕ) : Type 0 where
+  pub many : length cuts ≡ x.count
+  pub same : (i : ℕ) → i < k - 1 → get_or cuts i 0 ≡ (weighed (pic x) (block_at (pic x) i)).cuts
 
 -- part k is at hand: its forest starts at byte `at`, and these slots are evicted in it
 pub record PartAt (x : Given) (row : List ℕ) (k at : ℕ) (evicted : Range) : Type 0 where
@@ -245,11 +246,11 @@ module _ {x : Given} (t : Ready x) where
 
 -- ---- the numbers of endpoints cut
 
-pub cuts_none : {p : Picture} {cuts : List ℕ} → length cuts ≡ blocks_max → CutsOf p cuts 0
-cuts_none m = record { many = m; same = λ i h. absurd (omega arith) }
+pub counted_begun : {x : Given} {cuts : List ℕ} → length cuts ≡ x.count → Counted x cuts 0
+counted_begun m = record { many = m; same = λ i h. absurd (omega arith) }
 
-pub cuts_fewer : {p : Picture} {cuts : List ℕ} {j k : ℕ} → CutsOf p cuts k → j ≤ k → CutsOf p cuts j
-cuts_fewer c l = record { many = c.many; same = λ i h. c.same i (omega arith) }
+pub counted_ended : {x : Given} {cuts : List ℕ} {k : ℕ} → Ready x → Counted x cuts k → x.count < k → CutsOf (pic x) cuts
+counted_ended t c l = record { many = c.many ∙ t.counted; same = λ i h. c.same i (omega (arith, c.many)) }
 
 -- ---- going over the parts
 

@@ -6,7 +6,7 @@ use Rattle.rows.specs.Ranges.{no_range}
 use Rattle.graph.specs.declared.Node.{Node}
 use Rattle.picture.specs.declared.Edition.{Edition}
 use Rattle.picture.specs.declared.Header.{Header}
-use Rattle.picture.specs.Layout.{edition_of, blocks_max}
+use Rattle.picture.specs.Layout.{edition_of}
 use Rattle.picture.specs.Picture.{Picture, picture_of}
 use Rattle.network.specs.Words.{slot_count, is_held}
 use Rattle.network.specs.Tests.{served_weight, weighed, candidates}
@@ -45,10 +45,10 @@ part_fault bs ev zero =
     first (on (not (forest_right p (is_held p) (first_forest (edition_of bs) (slot_count p) ev))) 14 ∷ on (not (eqb (head_in ev).served (served_weight p))) 15 ∷ [])
 part_fault bs ev (suc i) = section_fault (edition_of bs) (picture_of bs) ev (weighings (picture_of bs)) i
 
--- for each of the first k candidates, at its place, how many endpoints it cuts
-pub record CutsOf (p : Picture) (cuts : List ℕ) (k : ℕ) : Type 0 where
-  pub many : length cuts ≡ blocks_max
-  pub same : (i : ℕ) → i < k → get_or cuts i 0 ≡ (weighed p (get_or (candidates p) i 0)).cuts
+-- for each candidate, at its place, how many endpoints it cuts
+pub record CutsOf (p : Picture) (cuts : List ℕ) : Type 0 where
+  pub many : length cuts ≡ length (candidates p)
+  pub same : (i : ℕ) → i < length cuts → get_or cuts i 0 ≡ (weighed p (get_or (candidates p) i 0)).cuts
 
 -- the first fault of the parts
 unfoldable pub parts_fault : List ℕ → List ℕ → ℕ

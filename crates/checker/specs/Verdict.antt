@@ -12,7 +12,7 @@ cost_in e n ev cuts i =
     let w : Stated = section_in e n ev i in
     record { block = w.block; loss = w.loss; cuts = get_or cuts i 0; mark = w.mark }
 
--- the same of all sections, in their order: there is such a number for each
+-- the same of all sections, in their order: of each it is counted how many endpoints its block cuts
 unfoldable pub stated : Edition → ℕ → List ℕ → List ℕ → List Cost
 stated e n ev cuts = map (cost_in e n ev cuts) (range 0 (length cuts))
 

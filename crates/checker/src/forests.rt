@@ -3,7 +3,7 @@ ghost use Rattle.std.specs.Prelude.{◌≡◌, true, List, ℕ, ◌+◌, ◌-◌
 ghost use Rattle.rows.specs.Rows.{marked, linked_in, Narrow, Meet, locations_max, row_words, slots_max};
 ghost use Rattle.rows.specs.Ranges.{without};
 ghost use Rattle.graph.specs.Held.{held_in};
-ghost use Rattle.picture.specs.Layout.{blocks_max, edition_of};
+ghost use Rattle.picture.specs.Layout.{edition_of};
 ghost use Rattle.picture.specs.Refusals.{fault_of};
 ghost use Rattle.picture.specs.Picture.{picture_of};
 ghost use Rattle.picture.specs.Inner.{Limited};
@@ -16,8 +16,8 @@ ghost use Rattle.checker.specs.Forests.{Room, node_from, evicted_in, stated_test
 use evidence::BYTE_BITS;
 use graph::Node;
 use network::Tables;
-use picture::{BLOCKS_MAX, Header, Picture, Refusal};
-use rows::{LOCATIONS, Range, WORDS};
+use picture::{Header, Picture, Refusal};
+use rows::{LOCATIONS, Range, Row, WORDS};
 use weigh::Lost;
 
 // Node v of the forest that starts at byte `at`: whole bytes, the parent before the depth.
@@ -37,8 +37,8 @@ fn node_at(ev: &[u8], h: Header, at: usize, v: usize) -> Node
 // Whether the node x of slot v keeps its rule in the forest that starts at byte `at`, where nothing is evicted.
 #[tactic(auto, using(crate::proofs::Nodes::node_tests))]
 fn node_right(
-    links: &[[u64; WORDS]; LOCATIONS],
-    held: &[u64; WORDS],
+    links: &[Row; LOCATIONS],
+    held: &Row,
     ev: &[u8],
     h: Header,
     at: usize,
@@ -77,7 +77,7 @@ fn evicted_in(ev: &[u8], h: Header, k: usize) -> Range
 
 // Whether two rows have a mark in common that is not of an evicted slot.
 #[tactic(auto, using(crate::proofs::Outside::apart_next, crate::proofs::Outside::apart_found))]
-fn meet_unevicted(row: &[u64; WORDS], other: &[u64; WORDS], words: usize, evicted: Range) -> bool
+fn meet_unevicted(row: &Row, other: &Row, words: usize, evicted: Range) -> bool
     requires { (length other.now ≡ row_words) × Narrow words other.now }
     ensures { Meet (marked row.now) (without evicted (marked other.now)) result }
 {
@@ -92,7 +92,7 @@ fn meet_unevicted(row: &[u64; WORDS], other: &[u64; WORDS], words: usize, evicte
 // The same for a location's row of links and what is held outside the forest. Most rows lead to nothing there, so the first look is the only
 // one.
 #[tactic(auto, using(crate::proofs::Outside::apart_all))]
-fn leads_out(row: &[u64; WORDS], outside: &[u64; WORDS], words: usize, evicted: Range) -> bool
+fn leads_out(row: &Row, outside: &Row, words: usize, evicted: Range) -> bool
     requires { (length outside.now ≡ row_words) × Narrow words outside.now }
     ensures { Meet (marked row.now) (without evicted (marked outside.now)) result }
 {
@@ -116,20 +116,16 @@ fn stated_right(ev: &[u8], h: Header, k: usize, lost: Lost) -> bool
 }
 
 // The forests and the weights that are stated of them have no fault: part by part, slot by slot, and the links of each location in the
-// forest. Part 0 is the first forest, and part i + 1 is section i. Without a fault, `cuts` then has for each section how many endpoints its
-// block cuts, by these forests.
-pub fn judge_parts(
-    p: &Picture,
-    ev: &[u8],
-    held: [u64; WORDS],
-    count: usize,
-    cuts: &mut [u8; BLOCKS_MAX],
-) -> Result<(), Refusal>
-    requires read { ((near : List ℕ) × SlotRowsOf (picture_of p.now) held near) × (form_right (edition_of p.now) (picture_of p.now) ev.now ≡ true) × (count ≡ length (candidates (picture_of p.now))) }
-    requires cuts_len { length cuts.old ≡ blocks_max }
+// forest. Part 0 is the first forest, and part i + 1 is section i. `cuts` has a byte for each section: without a fault, it then is how many
+// endpoints the section's block cuts, by these forests.
+// Kept: nested loops that a label leaves, the form that is asked for; one loop goes over the first forest and the sections, by their numbers.
+pub fn judge_parts(p: &Picture, ev: &[u8], held: Row, cuts: &mut [u8]) -> Result<(), Refusal>
+    requires read { ((near : List ℕ) × SlotRowsOf (picture_of p.now) held near) × (form_right (edition_of p.now) (picture_of p.now) ev.now ≡ true) }
+    requires cuts_len { length cuts.old ≡ length (candidates (picture_of p.now)) }
     ensures value { fault_of result ≡ parts_fault p.now ev.now }
-    ensures cuts_of { fault_of result ≡ 0 → CutsOf (picture_of p.now) cuts.new count }
+    ensures cuts_of { fault_of result ≡ 0 → CutsOf (picture_of p.now) cuts.new }
 {
+    let count = cuts.len();
     let mut tables = Tables::empty();
     tables.fill(p);
     let h = p.header();

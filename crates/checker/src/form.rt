@@ -7,7 +7,7 @@ ghost use Rattle.evidence.specs.Checks.{head_right, section_right};
 ghost use Rattle.checker.specs.Form.{form_of};
 
 use picture::Header;
-use rows::WORDS;
+use rows::Row;
 
 // Whether section i is of block b and has a mark of 0 or 1.
 #[tactic(auto, unfolding(evidence::specs::Checks::section_right))]
@@ -33,8 +33,9 @@ fn head_right(ev: &[u8], h: Header, count: usize) -> bool
 }
 
 // How many candidates there are by the row of the held near slots, if the evidence has the form for them.
+// Kept: the number of the next section is counted, since blocks that are no candidates have none.
 #[tactic(auto, using(crate::proofs::Forms::forming_wrong, crate::proofs::Forms::forming_ended))]
-pub fn form_of(ev: &[u8], h: Header, near: [u64; WORDS]) -> Option<usize>
+pub fn form_of(ev: &[u8], h: Header, near: Row) -> Option<usize>
     requires { Limited h × Sizes h }
     ensures { result ≡ form_of h.edition h.slots ev.now (blocks_marked near h.block_size (h.slots / h.block_size)) }
 {

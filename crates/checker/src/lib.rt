@@ -25,7 +25,7 @@ fn judge(p: &Picture, ev: &[u8]) -> Result<(), Refusal>
     };
     // The header is asked for twice: kept while the parts are judged, it takes 48 bytes more of stack.
     let mut cuts = [0u8; BLOCKS_MAX];
-    forests::judge_parts(p, ev, rows.held, count, &mut cuts)?;
+    forests::judge_parts(p, ev, rows.held, &mut cuts[..count])?;
     if !verdict::verdict_right(ev, p.header(), &cuts[..count]) {
         return Err(Refusal::Verdict);
     }
@@ -42,6 +42,7 @@ pub fn check(s: &[u8], ev: &[u8]) -> Result<(), Refusal>
 }
 
 // The part that show gives: the chosen candidate's section, or the empty part where the check fails or the verdict is none.
+// Kept: the empty part for none, the form that is asked for.
 #[tactic(auto, using(evidence::proofs::Showing::shown_none))]
 fn shown_part(s: &[u8], ev: &[u8]) -> Part
     ensures { result ≡ shown_part s.now ev.now }

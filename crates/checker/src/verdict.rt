@@ -99,6 +99,7 @@ pub fn verdict_right(ev: &[u8], h: Header, cuts: &[u8]) -> bool
 }
 
 // The place of the first section that is of block b, or their number where none is.
+// Kept: a number in both cases, as in the definition, by which the part of a section that is there is told.
 pub fn section_named(ev: &[u8], h: Header, count: usize, b: usize) -> usize
     requires { Limited h × (count ≤ 255) }
     ensures { result ≡ section_named h.edition h.slots ev.now count b }

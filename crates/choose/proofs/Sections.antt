@@ -71,7 +71,7 @@ module _ {bs : List ℕ} {h : Header} {t : Weighing} (r : WeighRows bs h t) wher
 
   -- with the walk without the block, and the sums of what is lost
   module _ (b : ℕ) {gone : Lost} (f : Forest)
-      (w : Walked (linked_in t.tables.now.links) (without (block_range h.block_size b) (held_in t.held.now)) (marked f.reached) f.parent f.depth)
+      (w : Walked (linked_in t.tables.now.links) (without (block_range h.block_size b) (held_in t.slots.now.held)) (marked f.reached) f.parent f.depth)
       (s : LostNow h t f.reached gone) where
     abbrev cost : Cost
     cost = record { block = b; loss = gone.weight; cuts = gone.count; mark = gone.mark }

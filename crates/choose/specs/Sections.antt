@@ -9,6 +9,7 @@ use Rattle.picture.specs.declared.Header.{Header}
 use Rattle.picture.specs.Picture.{Picture, picture_of}
 use Rattle.picture.specs.Inner.{Read}
 use Rattle.network.specs.declared.Cost.{Cost}
+use Rattle.network.specs.declared.SlotRows.{SlotRows}
 use Rattle.network.specs.Words.{block_count, is_held, joins}
 use Rattle.network.specs.Tests.{weighed, candidates}
 use Rattle.network.specs.Rows.{SlotRowsOf, TablesOf}
@@ -22,8 +23,8 @@ use Rattle.choose.specs.declared.Weighing.{Weighing}
 -- ---- before anything is written
 
 -- what is known of an accepted picture: the rows of its slots, the number of its candidates, and the evidence's length
-pub record Planned (bs holding nearby : List ℕ) (count size : ℕ) : Type 0 where
-  pub slots : SlotRowsOf (picture_of bs) holding nearby
+pub record Planned (bs : List ℕ) (rows : SlotRows) (count size : ℕ) : Type 0 where
+  pub slots : SlotRowsOf (picture_of bs) rows.held rows.near
   pub counted : count ≡ length (candidates (picture_of bs))
   pub long : size ≡ length_for bs
 
@@ -33,7 +34,7 @@ pub record Planned (bs holding nearby : List ℕ) (count size : ℕ) : Type 0 wh
 pub record WeighRows (bs : List ℕ) (h : Header) (t : Weighing) : Type 0 where
   pub read : Read bs h
   pub tables : TablesOf (picture_of bs) t.tables.now
-  pub slots : SlotRowsOf (picture_of bs) t.held.now t.near.now
+  pub slots : SlotRowsOf (picture_of bs) t.slots.now.held t.slots.now.near
   pub parents : List ℕ
   pub depths : List ℕ
   pub now : Walked (joins (picture_of bs).links) (is_held (picture_of bs)) (marked t.reached.now) parents depths
@@ -74,6 +75,6 @@ pub record Sectioned (e : Edition) (p : Picture) (at : ℕ) (buf buf' : List ℕ
 -- ---- the evidence
 
 -- what writing the evidence needs: what was planned, and room
-pub record EvidenceReady (bs holding nearby : List ℕ) (count size : ℕ) (buf : List ℕ) : Type 0 where
-  pub planned : Planned bs holding nearby count size
+pub record EvidenceReady (bs : List ℕ) (rows : SlotRows) (count size : ℕ) (buf : List ℕ) : Type 0 where
+  pub planned : Planned bs rows count size
   pub room : size ≤ length buf

@@ -19,21 +19,21 @@ use evidence::{
     VERDICT_AT, VERDICT_BITS,
 };
 use graph::Forest;
-use network::{Cost, Tables};
+use network::{Cost, SlotRows, Tables};
 use picture::{Edition, Header, LOCATION_BITS, Picture, Refusal, WIDE_LOCATION_BITS};
-use rows::WORDS;
+use rows::{Row, WORDS};
 use weigh::Lost;
 
 // What is known of an accepted picture before its evidence is written: the rows of its held and of its held near slots, the number of its
 // candidates, and the evidence's length.
 #[derive(Clone, Copy)]
 pub struct Plan {
-    pub held: [u64; WORDS],
-    pub near: [u64; WORDS],
+    pub slots: SlotRows,
     pub count: usize,
     pub length: usize,
 }
 
+// Kept: here and below a buffer, a place and a header go beside each other: each section has a place of its own.
 // Parent and depth of each slot from byte `at` on, W bits each, which take whole bytes together. W is a constant, so that the loop is compiled
 // for each edition by itself: that of edition 1 writes several nodes at a time.
 fn put_nodes<const W: usize>(buf: &mut [u8], at: usize, h: Header, forest: &Forest)
@@ -62,7 +62,7 @@ fn put_forest(buf: &mut [u8], at: usize, h: Header, forest: &Forest)
 }
 
 // The number of candidates among so many blocks.
-fn count_candidates(size: usize, blocks: usize, near: [u64; WORDS]) -> usize
+fn count_candidates(size: usize, blocks: usize, near: Row) -> usize
     requires { blocks * size ≤ slots_max }
     ensures { result ≡ length (blocks_marked near size blocks) }
 {
@@ -73,19 +73,16 @@ fn count_candidates(size: usize, blocks: usize, near: [u64; WORDS]) -> usize
 
 // What is known before the evidence of an accepted picture is written.
 pub fn make_plan(p: &Picture) -> Plan
-    ensures { Planned p.now result.held result.near result.count result.length }
+    ensures { Planned p.now result.slots result.count result.length }
 {
     let h = p.header();
     let n = h.slots;
     let size = h.block_size;
     let slots = network::slot_rows(p);
-    let held = slots.held;
-    let near = slots.near;
-    let count = count_candidates(size, n / size, near);
+    let count = count_candidates(size, n / size, slots.near);
     let length = evidence::evidence_bytes(h, count);
     Plan {
-        held,
-        near,
+        slots,
         count,
         length,
     }
@@ -107,14 +104,13 @@ fn put_section(buf: &mut [u8], at: usize, h: Header, w: Cost, forest: &Forest)
 #[derive(Drop)]
 struct Weighing<'a> {
     tables: &'a Tables,
-    held: &'a [u64; WORDS],
-    near: &'a [u64; WORDS],
-    reached: &'a [u64; WORDS],
+    slots: &'a SlotRows,
+    reached: &'a Row,
 }
 
 impl Weighing<'_> {
     // What is served now and is not where no more is reached than the row says.
-    fn lost(&self, h: Header, still: [u64; WORDS]) -> Lost
+    fn lost(&self, h: Header, still: Row) -> Lost
         requires rows { (bs : List ℕ) × WeighRows bs h self.now }
         requires narrow { Narrow (words_for h.slots) still }
         ensures { LostNow h self.now still result }
@@ -138,11 +134,11 @@ fn add_section(buf: &mut [u8], at: usize, b: usize, h: Header, weighing: &Weighi
     ensures { (bs : List ℕ) → WeighRows bs h weighing.now → SectionDone h.edition (picture_of bs) b at buf.old buf.new result }
 {
     let block = network::block_range(h.block_size, b);
-    let forest = graph::walk_without(weighing.tables.links, *weighing.held, h.slots, block);
+    let forest = graph::walk_without(weighing.tables.links, weighing.slots.held, h.slots, block);
     let lost = weighing.lost(h, forest.reached);
     let w = Cost {
         block: b,
-        // Kept: usize has no From<u32>, and try_from asks for an error that cannot be.
+        // Kept: usize has no From<u32>, and `try_from` with `unwrap` says no more.
         loss: lost.weight as usize,
         cuts: usize::from(lost.count),
         mark: usize::from(lost.mark),
@@ -161,7 +157,7 @@ fn put_sections(buf: &mut [u8], at: usize, h: Header, weighing: &Weighing) -> Op
     let mut best = None;
     let mut q = at;
     for b in 0..blocks {
-        if network::is_candidate(weighing.near, size, b) {
+        if network::is_candidate(&weighing.slots.near, size, b) {
             let w = add_section(buf, q, b, h, weighing);
             best = evidence::better(best, w);
             q += evidence::section_bytes(h);
@@ -205,25 +201,24 @@ fn put_head(buf: &mut [u8], e: Edition, c: Option<Cost>, count: usize, served: u
 
 // The evidence of an accepted picture, over the front of a buffer that is long enough.
 pub fn write_evidence(p: &Picture, plan: Plan, buf: &mut [u8])
-    requires { EvidenceReady p.now plan.held plan.near plan.count plan.length buf.old }
+    requires { EvidenceReady p.now plan.slots plan.count plan.length buf.old }
     ensures { buf.new ≡ evidence_of p.now ++ drop (length_for p.now) buf.old }
 {
     let h = p.header();
     let mut tables = Tables::empty();
     tables.fill(p);
-    let forest = graph::walk(tables.links, plan.held, h.slots);
+    let forest = graph::walk(tables.links, plan.slots.held, h.slots);
     let none = [0u64; WORDS];
     let weighing = Weighing {
         tables: &tables,
-        held: &plan.held,
-        near: &plan.near,
+        slots: &plan.slots,
         reached: &forest.reached,
     };
     let all = weighing.lost(h, none);
     put_forest(buf, HEAD_BYTES, h, &forest);
     let at = evidence::section_at(h, 0) / BYTE_BITS;
     let c = put_sections(buf, at, h, &weighing);
-    // Kept: usize has no From<u32>, and try_from asks for an error that cannot be.
+    // Kept: usize has no From<u32>, and `try_from` with `unwrap` says no more.
     let served = all.weight as usize;
     put_head(buf, h.edition, c, plan.count, served);
 }

@@ -23,6 +23,7 @@ fn with_digit(n: u64, c: u8) -> Option<u64>
 }
 
 // The number that an argument says in decimal, if it says one of 64 bits.
+// Kept: digit by digit, since `parse` takes a sign too.
 fn number(text: &[u8]) -> Option<u64>
     ensures { result ≡ given text.now }
 {

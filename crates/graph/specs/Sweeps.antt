@@ -55,7 +55,7 @@ pub data Sweep (finds : ℕ → Type 0) (d : ℕ) (fresh : Bool) (p k : ℕ) : B
   entered : {u : ℕ} → T fresh → First finds u → Sweep finds d fresh p k false u d
   kept : (T fresh → (u : ℕ) → finds u → ⊥) → Sweep finds d fresh p k fresh p k
 
--- the rows of a frontier are swept: every slot, in the row of the fresh ones and in the entries, by the links that lead out of the range
+-- the rows of a frontier are swept: every slot, in the row of the fresh ones and in the entries, by the links that do not lead into the block
 pub record Swept (l : Level) (frontier : ℕ → Bool) (linked : ℕ → ℕ → Bool) (before after : Walker) : Type 0 where
   pub ready : Ready l.words after
   pub slot : (v : ℕ) → Sweep (Finds frontier (avoiding l.block linked) v) l.depth

@@ -8,7 +8,7 @@ ghost use Rattle.graph.specs.Held.{held_in, SlotsOnly};
 ghost use Rattle.graph.specs.Steps.{Walked};
 ghost use Rattle.graph.specs.Sweeps.{Locations, Whole, Ready, Entered, WordSwept, Swept};
 
-use rows::{LOCATIONS, Range, SLOTS, WORDS};
+use rows::{LOCATIONS, Range, Row, SLOTS, WORDS};
 
 // No chain of fewest links steps to a slot twice.
 // Kept: no From may be called in a constant.
@@ -27,7 +27,7 @@ pub struct Node {
 pub struct Forest {
     pub parent: [u16; LOCATIONS],
     pub depth: [u16; LOCATIONS],
-    pub reached: [u64; WORDS],
+    pub reached: Row,
 }
 
 // How far a walk has come: the held slots that have no entry yet, and the entries of all locations. With the forest before them choose takes a
@@ -35,7 +35,7 @@ pub struct Forest {
 // Kept: contracts say that it is `Ready`; for an invariant the words would have to be in it, and choose then takes 9 % more on a long chain.
 #[derive(Drop)]
 struct Walker {
-    fresh: [u64; WORDS],
+    fresh: Row,
     forest: Forest,
 }
 
@@ -84,7 +84,7 @@ impl Forest {
 impl Walker {
     // One row: the fresh slots that are marked in it get the parent u and the level's depth, and are fresh no more. Those of the level's range
     // stay as they are.
-    fn sweep_row(&mut self, row: [u64; WORDS], u: u16, level: Level)
+    fn sweep_row(&mut self, row: Row, u: u16, level: Level)
         requires { Ready level.words self.old }
         ensures { Swept level (eqb u) (λ _. marked row) self.old self.new }
     {
@@ -99,13 +99,7 @@ impl Walker {
 
     // The rows of the locations that are marked in a word, in rising order.
     #[tactic(auto, using(crate::proofs::Entries::next_inside))]
-    fn sweep_word(
-        &mut self,
-        links: &[[u64; WORDS]; LOCATIONS],
-        word: u64,
-        base: usize,
-        level: Level,
-    )
+    fn sweep_word(&mut self, links: &[Row; LOCATIONS], word: u64, base: usize, level: Level)
         requires locations { Locations (in_word word base) }
         requires ready { Ready level.words self.old }
         ensures { Swept level (in_word word base) (linked_in links.now) self.old self.new }
@@ -114,19 +108,14 @@ impl Walker {
         // Kept: as in `enter`.
         while w != 0 {
             let u = base + w.trailing_zeros() as usize;
-            // Kept: `u` is proved to fit, and try_from asks for an error that cannot be.
+            // Kept: `u` is proved to fit, and `try_from` with `unwrap` says no more.
             self.sweep_row(links[u], u as u16, level);
             w &= w - 1;
         }
     }
 
     // One level: the rows of the frontier, in rising order.
-    fn sweep_frontier(
-        &mut self,
-        links: &[[u64; WORDS]; LOCATIONS],
-        frontier: [u64; WORDS],
-        level: Level,
-    )
+    fn sweep_frontier(&mut self, links: &[Row; LOCATIONS], frontier: Row, level: Level)
         requires locations { Locations (marked frontier) × Narrow level.words frontier }
         requires ready { Ready level.words self.old }
         ensures { Swept level (marked frontier) (linked_in links.now) self.old self.new }
@@ -139,12 +128,7 @@ impl Walker {
 
 // The forest of the chains over the links through those of the slots 1 to n that are held, but for those of a range. These are told by their
 // numbers where they would be entered, so `fresh` keeps their marks to the end.
-fn walk_over(
-    links: &[[u64; WORDS]; LOCATIONS],
-    held: [u64; WORDS],
-    n: usize,
-    block: Range,
-) -> Forest
+fn walk_over(links: &[Row; LOCATIONS], held: Row, n: usize, block: Range) -> Forest
     requires { SlotsOnly n held }
     ensures { Walked (linked_in links.now) (without block (held_in held)) (marked result.reached) result.parent result.depth }
 {
@@ -178,7 +162,7 @@ fn walk_over(
 }
 
 // The walks take their table by value and lend it, so that the compiler need not copy it: through the held slots,
-pub fn walk(links: [[u64; WORDS]; LOCATIONS], held: [u64; WORDS], n: usize) -> Forest
+pub fn walk(links: [Row; LOCATIONS], held: Row, n: usize) -> Forest
     requires { SlotsOnly n held }
     ensures { Walked (linked_in links) (without no_range (held_in held)) (marked result.reached) result.parent result.depth }
 {
@@ -186,12 +170,7 @@ pub fn walk(links: [[u64; WORDS]; LOCATIONS], held: [u64; WORDS], n: usize) -> F
 }
 
 // and through those that are not of a range.
-pub fn walk_without(
-    links: [[u64; WORDS]; LOCATIONS],
-    held: [u64; WORDS],
-    n: usize,
-    block: Range,
-) -> Forest
+pub fn walk_without(links: [Row; LOCATIONS], held: Row, n: usize, block: Range) -> Forest
     requires { SlotsOnly n held }
     ensures { Walked (linked_in links) (without block (held_in held)) (marked result.reached) result.parent result.depth }
 {

@@ -118,6 +118,7 @@ impl Text<'_> {
     }
 
     // Puts the line of a refusal.
+    // Kept: its words, and not those of Display, for the reason at `put_phrase`.
     fn put_refused_line(&mut self, refusal: Refusal)
         requires { HasRoom self.old text_max }
         ensures { Puts self.old (refused_line (refusal_number refusal)) self.new }
@@ -128,6 +129,7 @@ impl Text<'_> {
 }
 
 // Lists a picture of any bytes: the text from its first byte on, and its length.
+// Kept: a lent buffer and a length, since there is no heap for a String.
 pub fn list(s: &[u8], text: &mut [u8; TEXT_MAX]) -> usize
     ensures size { result ≡ length (listing s.now) }
     ensures bytes { text.new ≡ listing s.now ++ drop (length (listing s.now)) text.old }

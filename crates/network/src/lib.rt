@@ -9,7 +9,7 @@ ghost use Rattle.network.specs.Words.{joins, is_held};
 ghost use Rattle.network.specs.Rows.{Clear, RowsOf, SlotRowsOf, block_range, block_marked, EndpointsOf, Empty, TablesOf};
 
 use picture::{ENDPOINTS_MAX, Picture, State};
-use rows::{LOCATIONS, Range, WORDS};
+use rows::{LOCATIONS, Range, Row, WORDS};
 
 // A place for each endpoint by its number, and for 0.
 pub const ENDPOINTS: usize = ENDPOINTS_MAX + 1;
@@ -17,17 +17,18 @@ pub const ENDPOINTS: usize = ENDPOINTS_MAX + 1;
 // The held slots, and those of them that are near.
 #[derive(Clone, Copy)]
 pub struct SlotRows {
-    pub held: [u64; WORDS],
-    pub near: [u64; WORDS],
+    pub held: Row,
+    pub near: Row,
 }
 
 // What a picture's blocks are weighed by: its links and service links, the weights of its endpoints, and the protected ones.
+// Kept: what an endpoint weighs lies apart from what serves it, since most endpoints are looked at for the latter alone.
 #[derive(Drop)]
 pub struct Tables {
-    pub links: [[u64; WORDS]; LOCATIONS],
-    pub services: [[u64; WORDS]; ENDPOINTS],
+    pub links: [Row; LOCATIONS],
+    pub services: [Row; ENDPOINTS],
     pub weights: [u32; ENDPOINTS],
-    pub protected: [u64; WORDS],
+    pub protected: Row,
 }
 
 // What giving up a block costs: the weight that is lost, how many endpoints are cut, and the mark (1 if a protected one is, else 0).
@@ -36,13 +37,13 @@ pub struct Cost {
     pub block: usize,
     pub loss: usize,
     pub cuts: usize,
-    // Kept: a number, 1 or 0, as evidence has it: of a bool each use would make that number again.
+    // Kept: a number, 1 or 0, as evidence has it and as the definitions weigh it.
     pub mark: usize,
 }
 
 // Marks the links in a clear table: row a marks b where a link leads from a to b.
 // Kept: this loop and the next are alike but for the list and the end that has the row; one over both would take a closure for each.
-pub fn link_rows(p: &Picture, table: &mut [[u64; WORDS]; LOCATIONS])
+pub fn link_rows(p: &Picture, table: &mut [Row; LOCATIONS])
     requires { Clear locations_max table.old }
     ensures { RowsOf locations_max (joins (picture_of p.now).links) table.new }
 {
@@ -55,7 +56,7 @@ pub fn link_rows(p: &Picture, table: &mut [[u64; WORDS]; LOCATIONS])
 }
 
 // Marks the service links in a clear table: row c marks each location that serves endpoint c.
-pub fn service_link_rows(p: &Picture, table: &mut [[u64; WORDS]; ENDPOINTS])
+pub fn service_link_rows(p: &Picture, table: &mut [Row; ENDPOINTS])
     requires { Clear (suc endpoints_max) table.old }
     ensures { RowsOf (suc endpoints_max) (λ c a. joins (picture_of p.now).service_links a c) table.new }
 {
@@ -107,7 +108,7 @@ pub fn block_range(size: usize, b: usize) -> Range
 }
 
 // Whether block b has a held near slot, by the row of these.
-pub fn is_candidate(near: &[u64; WORDS], size: usize, b: usize) -> bool
+pub fn is_candidate(near: &Row, size: usize, b: usize) -> bool
     requires { b * size + size ≤ slots_max }
     ensures { result ≡ block_marked near.now size b }
 {
@@ -115,7 +116,7 @@ pub fn is_candidate(near: &[u64; WORDS], size: usize, b: usize) -> bool
 }
 
 // Writes the endpoints' weights into an array of zeros, and gives the row of the protected ones.
-pub fn endpoint_rows(p: &Picture, weights: &mut [u32; ENDPOINTS]) -> [u64; WORDS]
+pub fn endpoint_rows(p: &Picture, weights: &mut [u32; ENDPOINTS]) -> Row
     requires { weights.old ≡ replicate (suc endpoints_max) 0 }
     ensures { EndpointsOf (picture_of p.now) weights.new result }
 {
@@ -124,7 +125,7 @@ pub fn endpoint_rows(p: &Picture, weights: &mut [u32; ENDPOINTS]) -> [u64; WORDS
     for c in (1..=p.header().endpoints).rev() {
         let weight = p.endpoint_weight(c);
         let guarded = p.is_protected(c);
-        // Kept: `weight` is proved to fit, and try_from asks for an error that cannot be.
+        // Kept: `weight` is proved to fit, and `try_from` with `unwrap` says no more.
         weights[c] = weight as u32;
         if guarded {
             rows::add(&mut protected, c);

@@ -28,7 +28,7 @@ refusal_number ServiceEndpoint = 18
 abbrev pub refusals : List Refusal
 refusals = Short ∷ Edition ∷ Blocks ∷ Counts ∷ State ∷ Link ∷ Fill ∷ NoBlock ∷ Buffer ∷ Protected ∷ NoChange ∷ Near ∷ Form ∷ Forest ∷ Weight ∷ Verdict ∷ ServiceLocation ∷ ServiceEndpoint ∷ []
 
--- the refusal of a number
+-- the refusal of a number. 0 and what is over 18 are none, and stand for the first here: no call has such a first fault but 0, where it is done
 unfoldable pub refusal_of : ℕ → Refusal
 refusal_of k = get_or refusals (k - 1) Short
 

@@ -95,6 +95,7 @@ pub enum State {
 
 impl State {
     // The number that stands for it in a picture.
+    // Kept: a match, so that each number stands beside its state.
     pub fn number(self) -> usize
         ensures { result ≡ state_number self }
     {
@@ -162,6 +163,7 @@ pub struct Link {
 }
 
 // The edition of a number: for any that is none, the first.
+// Kept: no Option, since the rules before that of the edition are judged by some edition's widths; the edition's own number tells which.
 pub fn edition_for(number: usize) -> Edition
     ensures { result ≡ edition_for number }
 {
@@ -280,6 +282,7 @@ fn slot_at(h: Header, v: usize) -> usize
 }
 
 // The number of the state of slot v, whatever it is.
+// Kept: a number and not a `State`, since two bits of bytes from anywhere may say more than the three.
 pub fn slot_state(s: &[u8], h: Header, v: usize) -> usize
     requires { Limited h × (1 ≤ v) × (v ≤ h.slots) }
     ensures { result ≡ (slot_of (picture_with h s.now) v).state }
@@ -296,6 +299,7 @@ pub fn state_of(s: &[u8], h: Header, v: usize) -> State
 }
 
 // The state of slot v becomes this number: its two bits only.
+// Kept: any number, since a `State` would ask more of callers.
 pub fn put_state(s: &mut [u8], h: Header, v: usize, state: usize)
     requires { Limited h × (1 ≤ v) × (v ≤ h.slots) × (size_of h ≤ length s.old) }
     ensures { s.new ≡ put_field s.old (slots_at h.edition + (v - 1) * sum slot_widths) state_bits state }
@@ -347,6 +351,7 @@ fn link_at(s: &[u8], p: usize, from_bits: usize, to_bits: usize) -> Link
     }
 }
 
+// Kept: this and the next differ in where their list starts and in a width; one over both would be told both.
 // Link i, counted from 0. The width w of a location is the edition's, as a number of its own: see `judge_links`.
 pub fn nth_link(s: &[u8], h: Header, w: usize, i: usize) -> Link
     requires { Limited h × (w ≡ h.edition.location_bits) × (i < h.links) }
@@ -369,6 +374,7 @@ pub fn nth_service_link(s: &[u8], h: Header, w: usize, i: usize) -> Link
 }
 
 // Each slot has one of the three states.
+// Kept: bytes and header go beside each other here and below, since before they are judged nothing holds of them that a struct could say.
 // Kept: this loop and the two for links are alike but for what they read; one over any judgement would take its law and two closures each.
 fn judge_states(s: &[u8], h: Header) -> Result<(), Refusal>
     requires { Limited h }

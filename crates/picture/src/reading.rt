@@ -39,8 +39,17 @@ impl<'a> Picture<'a> {
         crate::judge(bytes, header)?;
         Ok(Picture { bytes, header })
     }
+
+    // The picture of bytes that were read before, with their header.
+    pub fn of(bytes: &'a [u8], header: Header) -> Picture<'a>
+        requires { Read bytes.now header }
+        ensures { result ≡ bytes.now }
+    {
+        Picture { bytes, header }
+    }
 }
 
+// Kept: the functions over bytes and header stand beside these methods, since what changes the bytes of a picture can have no `Picture` of them.
 impl Picture<'_> {
     // The header's numbers.
     pub fn header(&self) -> Header

@@ -50,6 +50,7 @@ pub enum Refusal {
 
 impl Refusal {
     // Its number.
+    // Kept: a match, so that each number stands beside its refusal.
     pub fn number(self) -> u8
         ensures { result ≡ refusal_number self }
     {

@@ -12,14 +12,14 @@ ghost use Rattle.weigh.specs.Weighing.{weigh_fault, weights_of, weighing, weight
 
 use network::{ENDPOINTS, Tables};
 use picture::{Picture, Refusal};
-use rows::WORDS;
+use rows::{Row, WORDS};
 
 // What weighing gives.
 #[derive(Clone, Copy)]
 pub struct Weights {
     pub served: u32,
     pub loss: u32,
-    // Kept: a number, 1 or 0, as evidence and the words have it: of a bool each use would make that number again.
+    // Kept: a number, 1 or 0, as evidence has it and as the definitions weigh it.
     pub mark: u8,
 }
 
@@ -34,7 +34,7 @@ pub struct Lost {
 
 // Whether an endpoint is lost, which the locations of the row serve: none of `after` does, and one of `before` did. Most endpoints are served
 // after as before, so the first look is the only one.
-fn is_lost(row: &[u64; WORDS], before: &[u64; WORDS], after: &[u64; WORDS], words: usize) -> bool
+fn is_lost(row: &Row, before: &Row, after: &Row, words: usize) -> bool
     requires { Narrow words before.now × Narrow words after.now }
     ensures { LostRow row.now before.now after.now result }
 {
@@ -42,14 +42,14 @@ fn is_lost(row: &[u64; WORDS], before: &[u64; WORDS], after: &[u64; WORDS], word
 }
 
 // The endpoints that the locations of `before` serve and those of `after` do not.
-// Kept: the tables one by one and not as `Tables`: from one address the loop reaches all three with a register less, and check takes a tenth longer.
+// Kept: the tables one by one and not as `Tables`: from one address the loop takes 14 of 100 instructions more, and choose 2.5.
 pub fn lost_between(
-    services: &[[u64; WORDS]; ENDPOINTS],
+    services: &[Row; ENDPOINTS],
     weights: &[u32; ENDPOINTS],
-    protected: [u64; WORDS],
+    protected: Row,
     d: usize,
-    before: [u64; WORDS],
-    after: [u64; WORDS],
+    before: Row,
+    after: Row,
     words: usize,
 ) -> Lost
     requires { Small weights.now × (d ≤ endpoints_max) × Narrow words before × Narrow words after }

@@ -10,6 +10,6 @@ pub mod Trips
 -- Computes: the number of the first fault of any lists. `write_judged` of proofs/Judged.antt shows that it is the number of the first rule
 -- that is broken, or 0 where all of them hold
 pub mod Faults
--- Serves inner contracts alone: what the functions that write ask
+-- Serve inner contracts alone: what follows what is written, and what the functions that write ask
 pub mod Tails
 pub mod Inner

@@ -35,15 +35,15 @@ struct Columns<'a> {
     service_links: &'a [[u16; 2]],
 }
 
-// The link at place i of a list of pairs.
+// The link of a pair.
+// Kept: no From, since a `Link` is picture's, which knows of no pairs.
 #[tactic(auto, unfolding(crate::specs::Columns::link_from))]
-fn link_at(pairs: &[[u16; 2]], i: usize) -> Link
-    requires { i < length pairs.now }
-    ensures { result ≡ link_from (get_or pairs.now i []) }
+fn link_from(pair: [u16; 2]) -> Link
+    ensures { result ≡ link_from pair }
 {
     Link {
-        from: usize::from(pairs[i][0]),
-        to: usize::from(pairs[i][1]),
+        from: usize::from(pair[0]),
+        to: usize::from(pair[1]),
     }
 }
 
@@ -66,8 +66,8 @@ fn judge_pairs<F: Fn(Link) -> Result<(), Refusal>>(
     ensures { (fault : Link → ℕ) → ((l : Link) (r : _) → F.post judge l r → fault_of r ≡ fault l)
         → fault_of result ≡ first (map fault (map link_from pairs.now)) }
 {
-    for i in 0..pairs.len() {
-        judge(link_at(pairs, i))?;
+    for pair in pairs {
+        judge(link_from(*pair))?;
     }
     Ok(())
 }
@@ -112,6 +112,7 @@ fn judge(h: Header, columns: Columns) -> Result<(), Refusal>
 }
 
 // State and near of each slot.
+// Kept: this and the next are one call each, which differ in what they read and in its widths.
 #[tactic(auto, using(crate::proofs::Rows::mark_small), unfolding(picture::specs::Layout::slot_widths, lists::specs::Lists::sum))]
 fn push_slots(buf: &mut [u8], from: Tail, states: &[u8], is_near: &[bool]) -> Tail
     requires { SlotsFit from states.now is_near.now buf.old }
@@ -145,7 +146,7 @@ fn push_links(
     ensures { Follows buf.old from (flat (map (link_fields (from_bits ∷ to_bits ∷ [])) (map link_from pairs.now))) buf.new result }
 {
     let row = |i: usize| {
-        let l = link_at(pairs, i);
+        let l = link_from(pairs[i]);
         (l.from, l.to)
     };
     // Where the widths are those of edition 1, they are told as the constants that they are: the loop is then compiled for them by itself.

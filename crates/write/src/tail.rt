@@ -11,6 +11,7 @@ pub struct Tail {
     pub ghost few: { held < 2 ^ (at % 8) },
 }
 
+// Kept: the buffer is lent to each step and not held: a tail with the buffer in it is seen with all its bytes wherever it is named.
 impl Tail {
     ghost use Rattle.std.specs.Prelude.{[], ◌∷◌};
     ghost use Rattle.lists.specs.Lists.{flat};

@@ -1,16 +1,18 @@
 -- A field of whole bytes, by a copy of them.
 use Rattle.std.proofs.Common.{◌≡◌, ◌+◌, ◌-◌, arith, rules}
+use mathlib.Core.Logic.{by_cases}
+use native.Mathlib.Decide.{dec_le}
+use native.Mathlib.Nat.{lt_of_not-le}
 use Rattle.bits.proofs.Pushing.{bytes_copied}
 use Rattle.bits.proofs.put_bytes.Goals as goal
 
-pub returns-then-count-gt2 : goal.returns-then-count-gt2
-returns-then-count-gt2 c =
-    let three : c.args.count ≡ 3 = omega (arith, c.requires.2, c.if-count-gt2.true) in
+pub returns : goal.returns
+returns c =
     let bytes = rw c.to_be_bytes.ensures at c.copy_from_slice.ensures.after in
-    rw three (bytes_copied c.args.s.now c.copy_from_slice.new.self c.args.k (c.args.k + 3 - c.args.k) 3 c.args.v (λ j. search rules) (omega (arith, c.requires.0)) (omega arith) bytes)
-
-pub returns-else-count-gt2 : goal.returns-else-count-gt2
-returns-else-count-gt2 c =
-    let two : c.args.count ≡ 2 = omega (arith, c.requires.1, c.if-count-gt2.false) in
-    let bytes = rw c.to_be_bytes-else-count-gt2.ensures at c.copy_from_slice-else-count-gt2.ensures.after in
-    rw two (bytes_copied c.args.s.now c.copy_from_slice-else-count-gt2.new.self c.args.k (c.args.k + 2 - c.args.k) 2 c.args.v (λ j. search rules) (omega (arith, c.requires.0)) (omega arith) bytes)
+    let s = c.args.s.now in
+    let k = c.args.k in
+    by_cases (dec_le 3 c.args.count)
+    (λ h. let three : c.args.count ≡ 3 = omega (arith, h, c.requires.2) in
+    rw three (bytes_copied s c.copy_from_slice.new.self k (k + 3 - k) 3 c.args.v (λ j. search rules) (omega (arith, c.requires.0, three)) (omega arith) (rw three at bytes)))
+    (λ h. let two : c.args.count ≡ 2 = omega (arith, lt_of_not-le h, c.requires.1) in
+    rw two (bytes_copied s c.copy_from_slice.new.self k (k + 2 - k) 2 c.args.v (λ j. search rules) (omega (arith, c.requires.0, two)) (omega arith) (rw two at bytes)))

@@ -1,10 +1,12 @@
 -- `judge` judges the form, the parts and the verdict, in this order. Assumes nothing.
-use mathlib.Core.Path.{◌≡◌, sym, ap, ◌∙◌}
+use mathlib.Core.Path.{◌≡◌, sym, ap, ◌∙◌, subst}
 use mathlib.Core.Bool.{true}
-use Prim.Native.Nat.{◌≤◌}
+use mathlib.Core.List.{List}
+use Prim.Native.Nat.{ℕ, ◌≤◌}
 use native.Mathlib.Omega.{arith}
 use lib.ListN.{length}
-use Rattle.std.proofs.Common.{length-take-le}
+use Rattle.std.proofs.Common.{length-take-le, length-append}
+use Rattle.std.proofs.lemmas.List.{take_at}
 use Rattle.std.proofs.lemmas.Result.{err_from_is_err_and}
 use Rattle.picture.specs.Layout.{blocks_max, edition_of}
 use Rattle.picture.specs.Refusals.{fault_of}
@@ -19,6 +21,7 @@ use Rattle.evidence.specs.Checks.{form_right, verdict_right}
 use Rattle.evidence.proofs.Fields.{candidates_few}
 use Rattle.checker.specs.Form.{form_of}
 use Rattle.checker.specs.Forests.{parts_fault, CutsOf}
+use Rattle.checker.specs.Verdict.{stated}
 use Rattle.checker.proofs.Answering.{check_form, check_part, check_verdict, check_none, stated_weighings}
 use Rattle.checker.proofs.Forms.{form_found, form_missed}
 use Rattle.checker.proofs.judge.Goals as goal
@@ -35,15 +38,15 @@ formed : (c : In-Some) → let a = c.args in let p = picture_of a.p.now in
     (form_right (edition_of a.p.now) p a.ev.now ≡ true) × (c.in-Some.count ≡ length (candidates p))
 formed c = form_found _ _ _ _ (sym c.in-Some.is ∙ judged_form (goal.at.In-Some c).After-form_of)
 
--- no part has a fault, so the numbers of endpoints cut are there
-counted : (c : In_ok-judge_parts) → CutsOf (picture_of c.args.p.now) c.judge_parts.new.cuts c.in-Some.count
+few : (c : In-Some) → c.in-Some.count ≤ blocks_max
+few c = omega (arith, (formed c).1, candidates_few _ c.header.ensures.accepted)
+
+-- no part has a fault, so the numbers of endpoints cut are there, one for each section
+counted : (c : In_ok-judge_parts) → CutsOf (picture_of c.args.p.now) c.judge_parts.new.cuts
 counted c = c.judge_parts.ensures.cuts_of (ap fault_of (c.in_ok-judge_parts.was))
 
-few : (c : In_ok-judge_parts) → c.in-Some.count ≤ blocks_max
-few c = omega (arith, (formed (goal.at.In_ok-judge_parts c).In-Some).1, candidates_few _ c.header.ensures.accepted)
-
-many : (c : In_ok-judge_parts) → c.in-Some.count ≤ length c.judge_parts.new.cuts
-many c = omega (arith, few c, (counted c).many)
+filled : (c : In_ok-judge_parts) → length c.judge_parts.new.cuts ≡ c.in-Some.count
+filled c = (counted c).many ∙ sym (formed (goal.at.In_ok-judge_parts c).In-Some).1
 
 -- and the sections state what the candidates weigh
 clean : (c : In_ok-judge_parts) → 0 ≡ parts_fault c.args.p.now c.args.ev.now
@@ -53,7 +56,9 @@ judged : (c : After-verdict_right) → c.verdict_right.result ≡ verdict_right 
 judged c =
     let before = (goal.at.After-verdict_right c).In_ok-judge_parts in
     let f = formed (goal.at.After-verdict_right c).In-Some in
-    c.verdict_right.ensures ∙ ap (verdict_right c.args.ev.now) (stated_weighings _ _ c.header-2.ensures f.0 (clean before) f.1 (counted before))
+    let h = c.header-2.result in
+    c.verdict_right.ensures ∙ ap (λ (cuts : List ℕ). verdict_right c.args.ev.now (stated h.edition h.slots c.args.ev.now cuts)) (take_at _ _ _ (filled before))
+    ∙ ap (verdict_right c.args.ev.now) (stated_weighings _ _ c.header-2.ensures f.0 (clean before) (counted before))
 
 pub form_of-requires : goal.form_of-requires
 form_of-requires c = let r = c.header.ensures in (read_limited _ _ r, read_sizes _ _ r)
@@ -61,9 +66,19 @@ form_of-requires c = let r = c.header.ensures in (read_limited _ _ r, read_sizes
 pub returns-in_default : goal.returns-in_default
 returns-in_default c = check_form _ _ c.header.ensures (form_missed _ _ _ (sym c.in_default.is ∙ judged_form (goal.at.returns-in_default c).After-form_of))
 
+pub slice_bounds-cuts-end : goal.slice_bounds-cuts-end
+slice_bounds-cuts-end c = few (goal.at.slice_bounds-cuts-end c).In-Some
+
+pub slice_bounds-judge_parts-end : goal.slice_bounds-judge_parts-end
+slice_bounds-judge_parts-end c = sym (length-take-le _ _ (few (goal.at.slice_bounds-judge_parts-end c).In-Some))
+
+pub judge_parts-requires-clause-cuts_len : goal.judge_parts-requires-clause-cuts_len
+judge_parts-requires-clause-cuts_len c =
+    let before = (goal.at.judge_parts-requires-clause-cuts_len c).In-Some in length-take-le _ _ (few before) ∙ (formed before).1
+
 pub judge_parts-requires-clause-read : goal.judge_parts-requires-clause-read
 judge_parts-requires-clause-read c =
-    let f = formed (goal.at.judge_parts-requires-clause-read c).In-Some in ((_, c.slot_rows-rows.ensures), f.0, f.1)
+    let f = formed (goal.at.judge_parts-requires-clause-read c).In-Some in ((_, c.slot_rows-rows.ensures), f.0)
 
 pub returns-in_err-judge_parts : goal.returns-in_err-judge_parts
 returns-in_err-judge_parts c =
@@ -72,15 +87,18 @@ returns-in_err-judge_parts c =
     (check_part _ _ c.header.ensures (formed (goal.at.returns-in_err-judge_parts c).In-Some).0 _
     (sym (ap fault_of (c.in_err-judge_parts.was)) ∙ c.judge_parts.ensures.value))
 
-pub slice_bounds-cuts-end : goal.slice_bounds-cuts-end
-slice_bounds-cuts-end c = many (goal.at.slice_bounds-cuts-end c).In_ok-judge_parts
+pub slice_bounds-cuts-end-2 : goal.slice_bounds-cuts-end-2
+slice_bounds-cuts-end-2 c = omega (arith, filled (goal.at.slice_bounds-cuts-end-2 c).In_ok-judge_parts, length-append c.judge_parts.new.cuts)
 
 pub slice_bounds-verdict_right-end : goal.slice_bounds-verdict_right-end
-slice_bounds-verdict_right-end c = sym (length-take-le _ _ (many (goal.at.slice_bounds-verdict_right-end c).In_ok-judge_parts))
+slice_bounds-verdict_right-end c =
+    let same = filled (goal.at.slice_bounds-verdict_right-end c).In_ok-judge_parts in sym (ap length (take_at _ _ _ same) ∙ same)
 
 pub verdict_right-requires : goal.verdict_right-requires
 verdict_right-requires c =
-    let before = (goal.at.verdict_right-requires c).In_ok-judge_parts in (read_limited _ _ c.header-2.ensures, omega (arith, length-take-le _ _ (many before), few before))
+    let same = filled (goal.at.verdict_right-requires c).In_ok-judge_parts in
+    let short : c.in-Some.count ≤ 255 = omega (arith, few (goal.at.verdict_right-requires c).In-Some) in
+    (read_limited _ _ c.header-2.ensures, subst (λ (n : ℕ). n ≤ 255) (sym (ap length (take_at _ _ _ same) ∙ same)) short)
 
 pub returns-then-not-verdict_right : goal.returns-then-not-verdict_right
 returns-then-not-verdict_right c =

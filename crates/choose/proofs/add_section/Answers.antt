@@ -19,7 +19,7 @@ walk_without-forest-requires c = let p = c.requires in slots_only_lem p.rows.rea
 
 -- the walk without the block
 rest : (c : After-walk_without-forest) → let t = c.args.weighing.now in let r = c.walk_without-forest.result in
-    Walked (linked_in t.tables.now.links) (without (block_range c.args.h.block_size c.args.b) (held_in t.held.now)) (marked r.reached) r.parent r.depth
+    Walked (linked_in t.tables.now.links) (without (block_range c.args.h.block_size c.args.b) (held_in t.slots.now.held)) (marked r.reached) r.parent r.depth
 rest c = rw c.block_range-block.ensures at c.walk_without-forest.ensures
 
 pub lost-lost-requires-clause-narrow : goal.lost-lost-requires-clause-narrow

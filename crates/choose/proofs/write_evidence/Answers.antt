@@ -34,13 +34,12 @@ walked : (c : After-walk-forest) → let p = picture_of c.args.p.now in let f = 
 walked c = now_walked c.requires.planned.slots c.fill.ensures.links c.walk-forest.ensures
 
 -- the rows are the picture's, wherever they are
-rows : (c : After-walk-forest) {i j k l : _} → let plan = c.args.plan in
+rows : (c : After-walk-forest) {i j k : _} → let plan = c.args.plan in
     WeighRows c.args.p.now c.header-h.result
     (record {
       tables = record { ref_ptr = i; now = c.fill.new.self };
-      held = record { ref_ptr = j; now = plan.held };
-      near = record { ref_ptr = k; now = plan.near };
-      reached = record { ref_ptr = l; now = c.walk-forest.result.reached };
+      slots = record { ref_ptr = j; now = plan.slots };
+      reached = record { ref_ptr = k; now = c.walk-forest.result.reached };
     })
 rows c =
     let slots = c.requires.planned.slots in

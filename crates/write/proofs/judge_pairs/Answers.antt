@@ -16,19 +16,19 @@ use Rattle.write.proofs.judge_pairs.Goals as goal
 here : (pairs : List (List ℕ)) (i : ℕ) {l : Link} → l ≡ link_from (get_or pairs i []) → l ≡ get_or (map link_from pairs) i (link_from [])
 here pairs i e = e ∙ sym (get_or-map link_from pairs i [])
 
-pub loop-i-init : goal.loop-i-init
-loop-i-init g c = λ fault f. scanning_begun (simp length-map)
+pub loop-pair-init : goal.loop-pair-init
+loop-pair-init g c = λ fault f. scanning_begun (simp length-map)
 
 pub returns-in_err-judge : goal.returns-in_err-judge
 returns-in_err-judge g c = λ fault f.
     let p = err_from_is_err_and c.from_residual.result c.from_residual.ensures.1 in
     rw (p.1, p.2)
-    (scanning_hit (c.loop-i.invariant fault f) (omega arith) (here c.args.pairs.now c.loop-i.i c.link_at.ensures)
+    (scanning_hit (c.loop-pair.invariant fault f) (omega arith) (here c.args.pairs.now c.loop-pair.pair-index c.link_from.ensures)
     (sym (ap fault_of c.in_err-judge.was) ∙ f _ _ c.judge.ensures) (number_some _))
 
-pub loop-i-preserved : goal.loop-i-preserved
-loop-i-preserved g c = λ fault f.
-    scanning_miss (c.loop-i.invariant fault f) (omega arith) (here c.args.pairs.now c.loop-i.i c.link_at.ensures) (sym (ap fault_of c.in_ok-judge.was) ∙ f _ _ c.judge.ensures) refl
+pub loop-pair-preserved : goal.loop-pair-preserved
+loop-pair-preserved g c = λ fault f.
+    scanning_miss (c.loop-pair.invariant fault f) (omega arith) (here c.args.pairs.now c.loop-pair.pair-index c.link_from.ensures) (sym (ap fault_of c.in_ok-judge.was) ∙ f _ _ c.judge.ensures) refl
 
 pub returns : goal.returns
-returns g c = λ fault f. scanning_ended (c.loop-i.invariant fault f) (omega arith)
+returns g c = λ fault f. scanning_ended (c.loop-pair.invariant fault f) (omega arith)

@@ -10,7 +10,7 @@ use Rattle.write.specs.Columns.{link_from}
 use Rattle.write.proofs.judge_pairs.Given as goal
 
 -- whatever number the judgement tells of a link
-abbrev pub invariant-loop-i : goal.invariant-loop-i
-invariant-loop-i g l =
+abbrev pub invariant-loop-pair : goal.invariant-loop-pair
+invariant-loop-pair g l =
     (fault : Link → ℕ) → ((x : Link) (r : _) → goal.F-post g l.judge x r → fault_of r ≡ fault x)
-    → Scanning fault (link_from []) (map link_from l.pairs) (length l.pairs) l.i
+    → Scanning fault (link_from []) (map link_from l.pairs) (length l.pairs) l.pair-index

@@ -5,6 +5,7 @@ use mathlib.Core.Logic.{inl, inr}
 use Prim.Native.Nat.{ℕ, ◌+◌, ◌/◌}
 use native.Mathlib.Omega.{arith}
 use lib.Dec.{T}
+use lib.ListN.{length}
 use Rattle.lists.proofs.Tests.{true_T}
 use Rattle.rows.specs.Rows.{row_words}
 use Rattle.rows.proofs.Marks.{less_narrow}
@@ -12,7 +13,7 @@ use Rattle.rows.proofs.Ranges.{without_both, in_range_any}
 use Rattle.picture.specs.Refusals.{fault_of}
 use Rattle.weigh.proofs.Serving.{sums_ready}
 use Rattle.checker.proofs.Following.{followed_begun, closed_begun, closed_none, closed_out, closed_apart}
-use Rattle.checker.proofs.Going.{Given, given, Sides, sides_whole, sides_less, tables_made, table_limited, held_narrow, cuts_none, cuts_fewer, gone_begun, gone_ended}
+use Rattle.checker.proofs.Going.{Given, given, Sides, sides_whole, sides_less, tables_made, table_limited, held_narrow, counted_begun, counted_ended, gone_begun, gone_ended}
 use Rattle.checker.proofs.Going.{AllSeen, AllShut, part_begun, part_node, part_seen, part_evicted, part_link, outer_narrow, part_narrow, part_counted, part_stated, part_gone}
 use Rattle.checker.proofs.forests.judge_parts.Invariants.{Parts}
 use Rattle.checker.proofs.forests.judge_parts.Goals as goal
@@ -25,14 +26,14 @@ use Rattle.checker.proofs.forests.judge_parts.Goals.{else-has-via-then-has+else-
 abbrev hand : After-words_for-words → Given
 hand c =
     let a = c.args in
-    given a.p.now a.ev.now a.held c.header-h.result a.count c.words_for-words.result c.fill.new.self
+    given a.p.now a.ev.now a.held c.header-h.result (length a.cuts.now) c.words_for-words.result c.fill.new.self
 
 pub check-init : goal.check-init
 check-init c =
     let given = c.requires in
     let p = given.read in
-    let t = tables_made c.header-h.ensures p.0 p.1 p.2 c.words_for-words.ensures c.fill.ensures in
-    record { none = refl; gone = gone_begun t; counted = cuts_none given.cuts_len }
+    let t = tables_made c.header-h.ensures p.0 p.1 given.cuts_len c.words_for-words.ensures c.fill.ensures in
+    record { none = refl; gone = gone_begun t; counted = counted_begun refl }
 
 pub forest_at-at-requires : goal.forest_at-at-requires
 forest_at-at-requires c = let t = c.check.invariant.gone.ready in (table_limited t, omega (arith, t.few_parts, c.check-test.true))
@@ -182,7 +183,7 @@ pub returns-after-k-ne0-clause-value : goal.returns-after-k-ne0-clause-value
 returns-after-k-ne0-clause-value c = let i = gone (goal.at.returns-after-k-ne0-clause-value c).Joined-k-ne0 in ap fault_of i.none ∙ gone_ended i.gone (omega arith)
 
 pub returns-after-k-ne0-clause-cuts_of : goal.returns-after-k-ne0-clause-cuts_of
-returns-after-k-ne0-clause-cuts_of c = λ _. cuts_fewer (gone (goal.at.returns-after-k-ne0-clause-cuts_of c).Joined-k-ne0).counted (omega arith)
+returns-after-k-ne0-clause-cuts_of c = λ _. let i = gone (goal.at.returns-after-k-ne0-clause-cuts_of c).Joined-k-ne0 in counted_ended i.gone.ready i.counted (omega arith)
 
 -- ---- the faults
 
