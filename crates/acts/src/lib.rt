@@ -37,6 +37,8 @@ fn after(a: Act, state: State) -> State
 }
 
 // Whether the act changes slot v.
+// Kept: here and below a picture stands beside the number of a slot or a block, with its bounds in the clause: the definitions that the clauses
+// name take both, and a struct of them would be taken apart in each.
 #[tactic(auto, using(picture::proofs::States::same_number))]
 fn is_changed(p: &Picture, a: Act, v: usize) -> bool
     requires { (1 ≤ v) × (v ≤ (header_of p.now).slots) }
@@ -47,8 +49,6 @@ fn is_changed(p: &Picture, a: Act, v: usize) -> bool
 }
 
 // Whether the act changes a slot of block b.
-// Kept: here and below, a picture beside the number of a block or a slot, which it has by a clause: the definitions that the clauses name take
-// both, and a struct of them would be taken apart in each.
 #[tactic(auto, using(crate::proofs::Headers::read_within))]
 fn changes(p: &Picture, a: Act, b: usize) -> bool
     requires { b < block_count (picture_of p.now) }

@@ -17,7 +17,7 @@ fn four_bytes(s: &[u8], k: usize) -> usize
 }
 
 // The same where the slice ends within them: what is not there counts as zeros.
-// Kept: beside the one above, since nearly every field lies before the end and needs none of these tests.
+// Kept: beside the one above, since read by this alone a check of a full picture takes 15 of 100 instructions more.
 fn last_bytes(s: &[u8], k: usize) -> usize
     requires { k < 2 ^ 62 }
     ensures { result ≡ field_at s.now (k * 8) 32 }

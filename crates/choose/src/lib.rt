@@ -155,6 +155,7 @@ fn put_sections(buf: &mut [u8], at: usize, h: Header, weighing: &Weighing) -> Op
     let size = h.block_size;
     let blocks = h.slots / size;
     let mut best = None;
+    // Kept: the place goes on by hand, since blocks that are no candidates have no section.
     let mut q = at;
     for b in 0..blocks {
         if network::is_candidate(&weighing.slots.near, size, b) {

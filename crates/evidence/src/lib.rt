@@ -166,8 +166,8 @@ pub fn head_of(ev: &[u8]) -> Head
 }
 
 // What section i of evidence under a header states.
-// Kept: evidence, header and the number of a section go beside each other, here and in the check: nothing holds of evidence from anywhere that a
-// struct could say.
+// Kept: evidence, header and the number of a section go beside each other, here and in the check: the definitions (`section_in`) take all of them,
+// and a struct would be taken apart in each clause.
 #[tactic(auto, using(crate::proofs::Places::places))]
 pub fn section_of(ev: &[u8], h: Header, i: usize) -> Stated
     requires { Limited h × (i ≤ 255) }

@@ -11,7 +11,7 @@ ghost use Rattle.graph.specs.Sweeps.{Locations, Whole, Ready, Entered, WordSwept
 use rows::{LOCATIONS, Range, Row, SLOTS, WORDS};
 
 // No chain of fewest links steps to a slot twice.
-// Kept: no From may be called in a constant.
+// Kept: u16 has no From<usize>, and no `try_from` may be called in a constant.
 const DEEPEST: u16 = SLOTS as u16;
 
 // An entry of a forest (01: the parent and the depth of a slot).

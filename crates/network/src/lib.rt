@@ -22,7 +22,7 @@ pub struct SlotRows {
 }
 
 // What a picture's blocks are weighed by: its links and service links, the weights of its endpoints, and the protected ones.
-// Kept: what an endpoint weighs lies apart from what serves it, since most endpoints are looked at for the latter alone.
+// Kept: what an endpoint weighs lies apart from what serves it: the sums take each table by itself, for the reason that they state.
 #[derive(Drop)]
 pub struct Tables {
     pub links: [Row; LOCATIONS],

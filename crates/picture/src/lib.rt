@@ -163,7 +163,7 @@ pub struct Link {
 }
 
 // The edition of a number: for any that is none, the first.
-// Kept: no Option, since the rules before that of the edition are judged by some edition's widths; the edition's own number tells which.
+// Kept: no Option, since it never failed, and a header is made by some edition of any bytes before their edition is judged.
 pub fn edition_for(number: usize) -> Edition
     ensures { result ≡ edition_for number }
 {
@@ -282,7 +282,7 @@ fn slot_at(h: Header, v: usize) -> usize
 }
 
 // The number of the state of slot v, whatever it is.
-// Kept: a number and not a `State`, since two bits of bytes from anywhere may say more than the three.
+// Kept: a number, which it gives of any bytes, as before; `state_of` gives the state.
 pub fn slot_state(s: &[u8], h: Header, v: usize) -> usize
     requires { Limited h × (1 ≤ v) × (v ≤ h.slots) }
     ensures { result ≡ (slot_of (picture_with h s.now) v).state }
@@ -299,7 +299,7 @@ pub fn state_of(s: &[u8], h: Header, v: usize) -> State
 }
 
 // The state of slot v becomes this number: its two bits only.
-// Kept: any number, since a `State` would ask more of callers.
+// Kept: any number, as before, since `State` is a narrower type.
 pub fn put_state(s: &mut [u8], h: Header, v: usize, state: usize)
     requires { Limited h × (1 ≤ v) × (v ≤ h.slots) × (size_of h ≤ length s.old) }
     ensures { s.new ≡ put_field s.old (slots_at h.edition + (v - 1) * sum slot_widths) state_bits state }
@@ -374,7 +374,7 @@ pub fn nth_service_link(s: &[u8], h: Header, w: usize, i: usize) -> Link
 }
 
 // Each slot has one of the three states.
-// Kept: bytes and header go beside each other here and below, since before they are judged nothing holds of them that a struct could say.
+// Kept: bytes and header go beside each other here and below, since the definitions (`picture_with`) take both, and no picture is accepted yet.
 // Kept: this loop and the two for links are alike but for what they read; one over any judgement would take its law and two closures each.
 fn judge_states(s: &[u8], h: Header) -> Result<(), Refusal>
     requires { Limited h }

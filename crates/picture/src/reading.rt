@@ -49,7 +49,7 @@ impl<'a> Picture<'a> {
     }
 }
 
-// Kept: the functions over bytes and header stand beside these methods, since what changes the bytes of a picture can have no `Picture` of them.
+// Kept: the functions over bytes and header are public as before, and stand beside these methods.
 impl Picture<'_> {
     // The header's numbers.
     pub fn header(&self) -> Header
