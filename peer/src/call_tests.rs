@@ -10,6 +10,7 @@ use crate::picture::{Endpoint, State};
 use crate::random::Random;
 use crate::random_tests::{fewest_links, served_by_words, small_networks, tied_networks};
 use crate::reach::NOTHING;
+use crate::refusals::number_of;
 use crate::samples::{case_a, A_BYTES, SECOND_BYTES};
 use crate::{pack, read, Picture};
 
@@ -45,7 +46,7 @@ fn hold_by_hand(near_limit: u8, start: [u8; 2], rows: &[Row]) {
         let mut moments = vec![bytes.clone()];
         for (step, (act, block, number, states)) in rows.iter().enumerate() {
             let answer = Call { act: *act, block: *block }.make(&mut bytes);
-            assert_eq!(answer.err().unwrap_or(0), *number, "call {step}");
+            assert_eq!(number_of(answer), *number, "call {step}");
             assert_eq!(bytes, expected(*states), "call {step}");
             moments.push(bytes.clone());
             for earlier in &moments {
@@ -55,7 +56,7 @@ fn hold_by_hand(near_limit: u8, start: [u8; 2], rows: &[Row]) {
         let calls: Vec<Call> = rows.iter().map(|row| Call { act: row.0, block: row.1 }).collect();
         let mut whole = expected(start);
         let answers = make_all(&mut whole, &calls);
-        let numbers = answers.into_iter().map(|answer| answer.err().unwrap_or(0));
+        let numbers = answers.into_iter().map(number_of);
         assert!(numbers.eq(rows.iter().map(|row| row.2)));
         assert_eq!(whole, bytes);
     }
@@ -147,6 +148,27 @@ fn a_freed_slot_stays_freed_beside_one_that_is_turned() {
     ] {
         assert_eq!(Call { act, block: 1 }.make(&mut bytes), answer);
         assert_eq!(bytes, states(State::Freed, then));
+    }
+}
+
+/// Reload cuts nothing, whatever hangs on the block.
+#[test]
+fn a_block_that_may_not_go_is_reloaded() {
+    let states = |second| {
+        let mut picture = Picture { near_limit: 4, ..case_a() };
+        picture.slots[1].state = second;
+        pack(&picture)
+    };
+    let mut bytes = states(State::Recoverable);
+    // Slot 1 alone feeds endpoint 1, which is protected.
+    for (act, answer, then) in [
+        (Evict, Err(10), State::Recoverable),
+        (Reload, Ok(()), State::Held),
+        (Evict, Err(10), State::Held),
+        (Reload, Err(11), State::Held),
+    ] {
+        assert_eq!(Call { act, block: 0 }.make(&mut bytes), answer);
+        assert_eq!(bytes, states(then));
     }
 }
 
@@ -309,7 +331,7 @@ fn random_lists_keep_the_promise() {
     for (start, calls) in random_lists(1, 200) {
         editions.insert(start[0] >> 4);
         let moments = moments(start, &calls, |call, bytes| {
-            numbers.insert(call.make(bytes).err().unwrap_or(0));
+            numbers.insert(number_of(call.make(bytes)));
         });
         let middle = calls.len() / 2;
         for (last, later) in moments.iter().enumerate() {

@@ -109,7 +109,7 @@ fn no_longer_freed(earlier: &Picture, later: &Picture) -> Option<String> {
 }
 
 /// So many calls of chance, now and then on a number that no block has. Freed slots never come back,
-/// so that a long list has frees for half of its blocks at most, and many only at its end.
+/// so that a long list has frees for about half of its blocks at most, and many only at its end.
 pub fn any_calls(random: &mut Random, blocks: usize, count: usize) -> Vec<Call> {
     let rare = (count / random.between(1, blocks.div_ceil(2))).max(4);
     let end = count - count / 8;

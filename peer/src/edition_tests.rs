@@ -8,6 +8,7 @@ use crate::networks::{long_chain, network, Size, SHAPES};
 use crate::picture::State;
 use crate::random::Random;
 use crate::random_tests::{small_networks, tied_networks};
+use crate::refusals::number_of;
 use crate::samples::{all, case, case_a, in_second, longest_evidence, longest_second, second};
 use crate::samples::{second_larger, A_BYTES, A_EVIDENCE, SECOND_BYTES, SECOND_EVIDENCE};
 use crate::tests::{choice_of, evidence_of, written, ROOM};
@@ -31,7 +32,7 @@ fn with_header(block_size: u32, slots: u32, near_limit: u32, endpoints: u32) -> 
 }
 
 fn refusal(bytes: &[u8]) -> u8 {
-    read(bytes).err().unwrap_or(0)
+    number_of(read(bytes))
 }
 
 #[test]

@@ -127,7 +127,8 @@ fn the_header_has_the_numbers() {
     for (name, value) in refusals {
         assert_eq!(in_header(&format!("BLOCKPLAN_REFUSED_{name}")), usize::from(value), "{name}");
         // The library has them as the variants of an enum: `NO_BLOCK` is `NoBlock`.
-        let variant: String = name.split('_').map(|word| word[..1].to_string() + &word[1..].to_lowercase()).collect();
+        let variant: String =
+            name.split('_').map(|word| word[..1].to_string() + &word[1..].to_lowercase()).collect();
         assert!(library.contains(&format!("Refusal::{variant} => {value},")), "{name}");
     }
 }

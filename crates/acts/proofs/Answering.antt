@@ -1,11 +1,8 @@
 -- The first fault of an act in the order in which it is judged. Assumes nothing.
 use mathlib.Core.Path.{◌≡◌, sym, ap, ◌∙◌}
 use mathlib.Core.Bool.{Bool, true, false, not}
-use mathlib.Core.Logic.{by_cases}
 use mathlib.Core.List.{List, [], ◌∷◌}
 use Prim.Native.Nat.{ℕ, ◌≤◌, ◌<◌}
-use native.Mathlib.Omega.{arith}
-use native.Mathlib.Decide.{dec_lt}
 use borrow.Author.Tests.{le-leb, lt-leb}
 use Rattle.lists.specs.Lists.{on, first}
 use Rattle.lists.proofs.Faults.{first_one}
@@ -60,7 +57,3 @@ module _ (a : Act) (bs : List ℕ) (b : ℕ) where
   -- any fault: they stay
   pub refused_bytes : (e : Refusal) → refusal_number e ≡ act_fault a bs b → bs ≡ act_bytes a bs b
   refused_bytes e q = sym (refused_stays a bs b (λ z. number_some e (q ∙ z)))
-
-  -- no fault: the block is one of the picture's
-  pub done_block : picture_fault bs ≡ 0 → (k : ℕ) → k ≡ 0 → k ≡ act_fault a bs b → b < block_count (picture_of bs)
-  done_block z k o e = by_cases (dec_lt b (block_count (picture_of bs))) (λ l. l) (λ g. absurd (number_some NoBlock (no_block z (omega arith) ∙ sym e ∙ o)))

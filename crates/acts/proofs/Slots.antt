@@ -60,11 +60,6 @@ module _ (p : Picture) (b v : ℕ) where
   unfolding in_block
   block_in_lem l m = T_and (leb (b * p.block_size + 1) v) (leb v (b * p.block_size + p.block_size)) (le→leb _ _ l) (le→leb _ _ m)
 
--- past the slots there is only the default, which is freed and not near
-pub state_past : (p : Picture) (i : ℕ) → slot_count p ≤ i → (slot_of p (suc i)).state ≡ 2
-unfolding slot_count
-state_past p i h = ap (λ (s : Slot). s.state) (slot_past p i h)
-
 -- ---- a slot after an act
 
 module _ (a : Act) (p : Picture) (b : ℕ) where

@@ -33,11 +33,11 @@ module _ (p : Picture) (b c : ℕ) where
         absurd (s (record { endpoint = c; some = own.1; most = own.2; protected = guarded; cut = record { before = before; after = λ t. m (served_marked n t) } })))
 
     -- and so after an act that empties it
-    emptied_serves : {a : Act} → Empties a → Admissible p b → Served (act_on a p b) (is_held (act_on a p b)) c
-    emptied_serves {a} e s = acted_serves a (λ v t. subst T (sym (emptied_held e p b v)) t) (spared_without s)
+    spared_emptied : {a : Act} → Empties a → Admissible p b → Served (act_on a p b) (is_held (act_on a p b)) c
+    spared_emptied {a} e s = acted_serves a (λ v t. subst T (sym (emptied_held e p b v)) t) (spared_without s)
 
     -- one law for any act
     pub spared_serves : (a : Act) → Spares a p b → Served (act_on a p b) (is_held (act_on a p b)) c
-    spared_serves Evict s = emptied_serves evict_empties s
+    spared_serves Evict s = spared_emptied evict_empties s
     spared_serves Reload s = acted_serves Reload (λ v t. subst T (sym (reloaded_held p b v)) (T-or-l (is_held p v) _ t)) before
-    spared_serves Free s = emptied_serves free_empties s
+    spared_serves Free s = spared_emptied free_empties s

@@ -1,5 +1,5 @@
 -- A list of calls keeps what C-15 says. Each sentence is shown for one call, and goes from call to call. Assumes nothing.
-use mathlib.Core.Path.{◌≡◌, refl, ◌∙◌}
+use mathlib.Core.Path.{◌≡◌, refl, sym, subst, ◌∙◌}
 use mathlib.Core.Logic.{by_cases}
 use mathlib.Core.List.{List, [], ◌∷◌, ◌++◌}
 use Prim.Native.Nat.{ℕ}
@@ -87,4 +87,5 @@ after_more bs [] more = refl
 after_more bs (c ∷ cs) more = after_more (call_bytes bs c) cs more
 
 pub calls_keep : CallsKeep
-calls_keep bs ok calls more = rw (after_more bs calls more) (list_keeps (bytes_after bs calls) (list_keeps bs ok calls).accepted more)
+calls_keep bs ok calls more =
+    subst (Keeps (bytes_after bs calls)) (sym (after_more bs calls more)) (list_keeps (bytes_after bs calls) (list_keeps bs ok calls).accepted more)

@@ -40,7 +40,7 @@ pub record Keeps (earlier later : List ℕ) : Type 0 where
   -- "A slot freed once is freed after every longer list too"
   pub freed : (v : ℕ) → (slot_of (picture_of earlier) v).state ≡ 2 → (slot_of (picture_of later) v).state ≡ 2
 
--- "This is one statement over the list": from the end of any calls to the end of any more. Where the first list is empty, that is from the
--- picture that was handed over to the end of a whole list
+-- "This is one statement over the list": the bytes after any calls, and any more behind them, keep what those after the first ones had. Where
+-- the first list is empty, that is from the picture that was handed over to the end of a whole list
 abbrev pub CallsKeep : Type 0
 CallsKeep = (bs : List ℕ) → picture_fault bs ≡ 0 → (calls more : List Call) → Keeps (bytes_after bs calls) (bytes_after bs (calls ++ more))

@@ -91,7 +91,7 @@ freed_a = set (set case_a 7 0x26) 8 0xD0
 unfoldable pub room_a : List ℕ
 room_a = set case_a 2 4
 
--- six calls, one after another: of block 1 but for the third
+-- six calls, one after another, all on block 1 but the third
 unfoldable pub calls_a : List Call
 calls_a =
     record { act = Evict; block = 1 }

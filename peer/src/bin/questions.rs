@@ -14,6 +14,7 @@ use peer::foreign::{self, GROWTHS};
 use peer::networks::{any_edition, network, tied, Size, SHAPES};
 use peer::picture::{Endpoint, Picture, State};
 use peer::random::Random;
+use peer::refusals::number_of;
 use peer::{
     check, choose, generate, lists_of, pack, samples, show, weigh, write, Asked, Edition, Lists,
 };
@@ -145,7 +146,7 @@ fn ask(table: &mut Table, random: &mut Random, picture: &Picture, bytes: &[u8], 
     for act in ACTS {
         let block = random.below(picture.block_count()) as u32;
         let mut lent = bytes.to_vec();
-        let number = Call { act, block }.make(&mut lent).err().unwrap_or(0);
+        let number = number_of(Call { act, block }.make(&mut lent));
         table.add(
             format!("act {act:?} {name} {block}"),
             &[vec![u32::from(number)], numbers(&lent)].concat(),
@@ -433,7 +434,7 @@ fn made(call: &Call) -> String {
 fn ask_list(table: &mut Table, bytes: &[u8], calls: &[Call]) {
     let mut lent = bytes.to_vec();
     let answers = make_all(&mut lent, calls);
-    let answers = answers.into_iter().map(|answer| u32::from(answer.err().unwrap_or(0))).collect();
+    let answers = answers.into_iter().map(|answer| u32::from(number_of(answer))).collect();
     let (served, _, _) = weigh(&lent, 0).expect("an accepted picture, which has a block 0");
     let calls: Vec<String> = calls.iter().map(made).collect();
     let question = format!("calls {} {}", list(bytes), list(&calls));

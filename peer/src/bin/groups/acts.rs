@@ -1,6 +1,6 @@
-//! Acts one after another, lists of acts, and reloads at the edge of the near limit.
+//! Lists of calls, and reloads at the edge of the near limit.
 
-use peer::calls::{any_calls, no_blocks, Act, Call, ACTS};
+use peer::calls::{any_calls, Act, Call};
 use peer::networks::{network, tied, Size, SHAPES};
 use peer::pack;
 use peer::picture::{Picture, State};
@@ -34,21 +34,12 @@ fn held_near_after_reload(picture: &Picture, block: usize) -> usize {
     reloaded.held_near()
 }
 
-/// Many acts on one picture, with choose and check in between.
-pub fn sequences(comparison: &mut Comparison, random: &mut Random, count: usize) {
+/// Some tens of calls on one picture, mostly a small one.
+pub fn short_lists(comparison: &mut Comparison, random: &mut Random, count: usize) {
     for round in 0..count.div_ceil(2) {
         let mut picture = any_network(random, round, 32);
         unprotect_some(random, &mut picture);
-        let mut bytes = pack(&picture);
-        for step in 0..30 {
-            let block = any_block(random, picture.block_count());
-            // Freed slots never come back, so free is the rarest.
-            let act = ACTS[*random.pick(&[0, 0, 0, 1, 1, 1, 2])];
-            comparison.act(&Call { act, block }, &mut bytes);
-            if step % 10 == 9 {
-                choose_and_check(comparison, random, &bytes);
-            }
-        }
+        one_list(comparison, random, &picture, 30);
     }
 }
 
@@ -59,21 +50,13 @@ fn unprotect_some(random: &mut Random, picture: &mut Picture) {
     }
 }
 
-fn any_block(random: &mut Random, blocks: usize) -> u32 {
-    match random.once_in(12) {
-        true => no_blocks(random, blocks as u32)[random.below(5)],
-        false => random.below(blocks) as u32,
-    }
-}
-
-/// Some hundreds of acts on one picture, refused ones among them, with choose and check in between.
-pub fn lists(comparison: &mut Comparison, random: &mut Random, count: usize) {
+/// Some hundreds of calls on one picture, mostly one of middle size.
+pub fn long_lists(comparison: &mut Comparison, random: &mut Random, count: usize) {
     for round in 0..count.div_ceil(16) {
         let mut picture = mostly_middle(random, round);
         enliven(random, &mut picture);
         let length = random.between(200, 400);
-        let calls = any_calls(random, picture.block_count(), length);
-        one_list(comparison, random, pack(&picture), &calls);
+        one_list(comparison, random, &picture, length);
     }
 }
 
@@ -113,17 +96,18 @@ fn enliven(random: &mut Random, picture: &mut Picture) {
     }
 }
 
-/// Holds the promise over lists after each call: from the moment before it, from the start, and from
-/// any moment of the list.
-fn one_list(comparison: &mut Comparison, random: &mut Random, start: Vec<u8>, calls: &[Call]) {
-    let mut moments = vec![start];
+/// So many calls of chance, refused ones among them, with choose and check in between. Holds the promise
+/// over lists after each call: from the moment before it, from the start, and from one of chance.
+fn one_list(comparison: &mut Comparison, random: &mut Random, start: &Picture, length: usize) {
+    let calls = any_calls(random, start.block_count(), length);
+    let mut moments = vec![pack(start)];
     for (step, call) in calls.iter().enumerate() {
         let mut bytes = moments[step].clone();
         comparison.act(call, &mut bytes);
         for from in [step, 0, random.below(step + 1)] {
             comparison.expect_kept(&moments[from], &calls[from..=step], &bytes);
         }
-        if step % 50 == 49 {
+        if step % 10 == 9 {
             choose_and_check(comparison, random, &bytes);
         }
         moments.push(bytes);
