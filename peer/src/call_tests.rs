@@ -127,49 +127,50 @@ fn an_endpoint_that_is_served_after_a_reload_stays_served() {
     assert_eq!(back.as_deref(), Some(LOST_1));
 }
 
-/// Where a block has a freed slot and another one, the acts turn the other one alone.
-#[test]
-fn a_freed_slot_stays_freed_beside_one_that_is_turned() {
-    let states = |third, fourth| {
+/// Makes the calls on a block of A with room for all near slots. The state of one slot, which is recoverable
+/// at the start, is all that turns.
+fn hold_one_slot(block: u32, states: impl Fn(&mut Picture, State), rows: &[(Act, u8, State)]) {
+    let bytes_with = |state| {
         let mut picture = Picture { near_limit: 4, ..case_a() };
-        picture.slots[2].state = third;
-        picture.slots[3].state = fourth;
+        states(&mut picture, state);
         pack(&picture)
     };
-    let mut bytes = states(State::Freed, State::Recoverable);
-    for (act, answer, then) in [
-        (Reload, Ok(()), State::Held),
-        (Reload, Err(11), State::Held),
-        (Evict, Ok(()), State::Recoverable),
-        (Evict, Err(11), State::Recoverable),
-        (Reload, Ok(()), State::Held),
-        (Free, Ok(()), State::Freed),
-        (Reload, Err(11), State::Freed),
-    ] {
-        assert_eq!(Call { act, block: 1 }.make(&mut bytes), answer);
-        assert_eq!(bytes, states(State::Freed, then));
+    let mut bytes = bytes_with(State::Recoverable);
+    for (act, number, then) in rows {
+        assert_eq!(number_of(Call { act: *act, block }.make(&mut bytes)), *number);
+        assert_eq!(bytes, bytes_with(*then));
     }
 }
 
-/// Reload cuts nothing, whatever hangs on the block.
+/// Where a block has a freed slot and another one, the acts turn the other one alone.
+#[test]
+fn a_freed_slot_stays_freed_beside_one_that_is_turned() {
+    let states = |picture: &mut Picture, fourth| {
+        turn(picture, &[3], State::Freed);
+        turn(picture, &[4], fourth);
+    };
+    let rows = [
+        (Reload, 0, State::Held),
+        (Reload, 11, State::Held),
+        (Evict, 0, State::Recoverable),
+        (Evict, 11, State::Recoverable),
+        (Reload, 0, State::Held),
+        (Free, 0, State::Freed),
+        (Reload, 11, State::Freed),
+    ];
+    hold_one_slot(1, states, &rows);
+}
+
+/// Reload cuts nothing, whatever hangs on the block: slot 1 feeds endpoint 1, which is protected.
 #[test]
 fn a_block_that_may_not_go_is_reloaded() {
-    let states = |second| {
-        let mut picture = Picture { near_limit: 4, ..case_a() };
-        picture.slots[1].state = second;
-        pack(&picture)
-    };
-    let mut bytes = states(State::Recoverable);
-    // Slot 1 alone feeds endpoint 1, which is protected.
-    for (act, answer, then) in [
-        (Evict, Err(10), State::Recoverable),
-        (Reload, Ok(()), State::Held),
-        (Evict, Err(10), State::Held),
-        (Reload, Err(11), State::Held),
-    ] {
-        assert_eq!(Call { act, block: 0 }.make(&mut bytes), answer);
-        assert_eq!(bytes, states(then));
-    }
+    let rows = [
+        (Evict, 10, State::Recoverable),
+        (Reload, 0, State::Held),
+        (Evict, 10, State::Held),
+        (Reload, 11, State::Held),
+    ];
+    hold_one_slot(0, |picture, second| turn(picture, &[2], second), &rows);
 }
 
 type Change = fn(&mut Picture);
