@@ -4,7 +4,7 @@ use std::fmt::Debug;
 
 use crate::picture::{read, Picture, State};
 use crate::random::Random;
-use crate::reach::Network;
+use crate::reach::{self, Network};
 use crate::{evict, free, reload};
 
 #[derive(Clone, Copy, Debug, PartialEq, Eq)]
@@ -96,8 +96,7 @@ fn other_field<R, F: Debug + PartialEq>(
 
 fn no_longer_served(earlier: &Picture, later: &Picture) -> Option<String> {
     let (before, after) = (Network::new(earlier).served_now(), Network::new(later).served_now());
-    let is_lost = |at: &usize| earlier.endpoints[*at].protected && before[*at] && !after[*at];
-    let lost = (0..before.len()).find(is_lost)?;
+    let lost = reach::no_longer_served(&before, &after).find(|&at| earlier.endpoints[at].protected)?;
     Some(format!("endpoint {} is protected and served before, not after", lost + 1))
 }
 

@@ -43,6 +43,11 @@ impl Cut {
     }
 }
 
+/// The places of the endpoints that the first list says to be served and the second does not.
+pub fn no_longer_served<'s>(before: &'s [bool], after: &'s [bool]) -> impl Iterator<Item = usize> + 's {
+    (0..before.len()).filter(|&place| before[place] && !after[place])
+}
+
 /// A picture with its links in adjacency lists.
 pub struct Network<'p> {
     pub picture: &'p Picture,
@@ -125,13 +130,12 @@ impl<'p> Network<'p> {
     /// weight 0 counts as any other.
     pub fn cut(&self, before: &[bool], after: &[bool]) -> Cut {
         let mut cut = Cut { loss: 0, endpoints: 0, mark: 0 };
-        for ((endpoint, before), after) in self.picture.endpoints.iter().zip(before).zip(after) {
-            if *before && !*after {
-                cut.loss += u32::from(endpoint.weight);
-                cut.endpoints += 1;
-                if endpoint.protected {
-                    cut.mark = 1;
-                }
+        for place in no_longer_served(before, after) {
+            let endpoint = &self.picture.endpoints[place];
+            cut.loss += u32::from(endpoint.weight);
+            cut.endpoints += 1;
+            if endpoint.protected {
+                cut.mark = 1;
             }
         }
         cut
