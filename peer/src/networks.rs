@@ -15,6 +15,18 @@ pub struct Size {
 }
 
 impl Size {
+    /// The size that a picture has.
+    pub fn of(picture: &Picture) -> Size {
+        Size {
+            edition: picture.edition,
+            block_size: usize::from(picture.block_size),
+            slots: picture.slots.len(),
+            endpoints: picture.endpoints.len(),
+            links: picture.links.len(),
+            serving: picture.serving.len(),
+        }
+    }
+
     /// A few slots, so that every field of the evidence can be tried.
     pub fn small(random: &mut Random) -> Size {
         let block_size = random.between(1, 3);
@@ -169,6 +181,48 @@ pub fn dense_held(random: &mut Random, size: Size) -> Picture {
     picture
 }
 
+/// A network in which every link starts at the origin. Links and serving links are repeated, links may
+/// end at the origin, and in many networks most endpoints have one block that serves them.
+pub fn flat(random: &mut Random, size: Size) -> Picture {
+    let mut picture = network(random, Shape::Flat, size);
+    start_at_origin(&mut picture);
+    let (origin, elsewhere) = (rarely(random), *random.pick(&[0, 1, 4, 32]));
+    serve_from_homes(random, &mut picture, origin, elsewhere);
+    picture
+}
+
+/// A flat random network for measuring: every slot is held, near and, where there are links enough,
+/// reached, and each endpoint has one block that serves it.
+pub fn flat_held(random: &mut Random, size: Size) -> Picture {
+    let mut picture = dense_held(random, size);
+    start_at_origin(&mut picture);
+    serve_from_homes(random, &mut picture, 0, 0);
+    picture
+}
+
+fn start_at_origin(picture: &mut Picture) {
+    picture.links.iter_mut().for_each(|(from, _)| *from = 0);
+}
+
+/// Lets each endpoint's serving links start at slots of one block, but for so many of 64 at the origin and
+/// so many anywhere.
+fn serve_from_homes(random: &mut Random, picture: &mut Picture, origin: usize, elsewhere: usize) {
+    let (block_size, slots) = (usize::from(picture.block_size), picture.slots.len());
+    let blocks = picture.block_count();
+    let homes: Vec<usize> = picture.endpoints.iter().map(|_| random.below(blocks)).collect();
+    for (location, endpoint) in &mut picture.serving {
+        *location = match random.below(64) {
+            share if share < origin => 0,
+            share if share < origin + elsewhere => random.between(0, slots) as u16,
+            _ => any_slot_of(random, block_size, homes[usize::from(*endpoint) - 1]),
+        };
+    }
+}
+
+fn any_slot_of(random: &mut Random, block_size: usize, block: usize) -> u16 {
+    (block * block_size + random.between(1, block_size)) as u16
+}
+
 /// Each slot linked to the next in rising order, every slot held and near and serving.
 pub fn long_chain(edition: Edition, block_size: usize, slots: usize, endpoints: usize) -> Picture {
     let served = |slot: usize| (slot as u16, (slot % endpoints + 1) as u8);
@@ -290,7 +344,8 @@ fn equal_sums(random: &mut Random, homes: &[usize]) -> Vec<u16> {
     weights
 }
 
-/// How often, out of 32 times, a network has what spoils ties; half of the networks never.
+/// How often, out of 32 or 64 times, a network has what spoils ties or feeds alone; half of the
+/// networks never.
 fn rarely(random: &mut Random) -> usize {
     *random.pick(&[0, 0, 1, 4])
 }
@@ -334,7 +389,7 @@ fn mostly_from_home(
     let mut serving = Vec::new();
     for (endpoint, home) in (1..).zip(homes) {
         for _ in 0..random.between(1, 3) {
-            serving.push(((home * block_size + random.between(1, block_size)) as u16, endpoint));
+            serving.push((any_slot_of(random, block_size, *home), endpoint));
         }
         if random.below(32) < elsewhere {
             serving.push((random.between(0, block_size * blocks) as u16, endpoint));
