@@ -17,6 +17,7 @@ pub mod generate;
 pub mod listing;
 pub mod lists;
 pub mod picture;
+pub mod price;
 pub mod random;
 pub mod reach;
 pub mod refusals;
@@ -38,6 +39,7 @@ pub use generate::{generate, Asked};
 pub use listing::listing;
 pub use lists::{lists_of, write, Lists};
 pub use picture::{pack, read, Picture};
+pub use price::{price, price_into};
 
 #[cfg(test)]
 mod call_tests;
@@ -47,6 +49,8 @@ mod edition_tests;
 mod generate_tests;
 #[cfg(test)]
 mod link_tests;
+#[cfg(test)]
+mod price_tests;
 #[cfg(test)]
 mod random_tests;
 #[cfg(test)]

@@ -19,6 +19,9 @@ pub const WEIGHT: u8 = 15;
 pub const VERDICT: u8 = 16;
 pub const SERVICE_LOCATION: u8 = 17;
 pub const SERVICE_ENDPOINT: u8 = 18;
+pub const LINK_START: u8 = 19;
+pub const RECORDS: u8 = 20;
+pub const RECORD_ENDPOINT: u8 = 21;
 
 /// The number of what a call answers, 0 where it is done.
 pub fn number_of<T>(answer: Result<T, u8>) -> u8 {

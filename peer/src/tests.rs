@@ -123,6 +123,9 @@ fn the_header_has_the_numbers() {
         ("VERDICT", refusals::VERDICT),
         ("SERVICE_LOCATION", refusals::SERVICE_LOCATION),
         ("SERVICE_ENDPOINT", refusals::SERVICE_ENDPOINT),
+        ("LINK_START", refusals::LINK_START),
+        ("RECORDS", refusals::RECORDS),
+        ("RECORD_ENDPOINT", refusals::RECORD_ENDPOINT),
     ];
     for (name, value) in refusals {
         assert_eq!(in_header(&format!("BLOCKPLAN_REFUSED_{name}")), usize::from(value), "{name}");

@@ -8,11 +8,11 @@ use crate::tests::{choice_of, evidence_of};
 use crate::{check, listing, pack, refusals, show, weigh, Picture};
 
 /// An endpoint by its weight and the locations that serve it.
-type Drawn<'d> = (u16, &'d [u16]);
+pub type Drawn<'d> = (u16, &'d [u16]);
 
 /// Blocks of one slot, each held, near and linked from the origin, so that block b is location b + 1
 /// and cuts the endpoints that no other location serves. No endpoint is protected.
-fn drawn(blocks: usize, endpoints: &[Drawn]) -> Picture {
+pub fn drawn(blocks: usize, endpoints: &[Drawn]) -> Picture {
     let serving = (1..).zip(endpoints).flat_map(|(endpoint, (_, locations))| {
         locations.iter().map(move |location| (*location, endpoint))
     });
