@@ -53,6 +53,14 @@ mod calls {
             picture: *mut u8,
             picture_len: usize,
         ) -> i32;
+        pub fn blockplan_price(
+            picture: *const u8,
+            picture_len: usize,
+            records: *const u8,
+            records_len: usize,
+            counters: *mut u32,
+            counter_count: usize,
+        ) -> i32;
     }
 }
 
@@ -117,6 +125,19 @@ pub fn generate(seed: u64, asked: &Asked, picture: &mut [u8]) -> i32 {
             asked.serving,
             picture.as_mut_ptr(),
             picture.len(),
+        )
+    }
+}
+
+pub fn price(picture: &[u8], records: &[u8], counters: &mut [u32]) -> i32 {
+    unsafe {
+        calls::blockplan_price(
+            picture.as_ptr(),
+            picture.len(),
+            records.as_ptr(),
+            records.len(),
+            counters.as_mut_ptr(),
+            counters.len(),
         )
     }
 }

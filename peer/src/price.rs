@@ -1,5 +1,5 @@
-//! What each block of a flat network loses by traffic: an endpoint weighs the sum of its records there,
-//! whatever weight the picture has for it.
+//! What each block loses by traffic: an endpoint weighs the sum of its records, whatever weight the picture
+//! has for it. Networks must be flat: every link starts at the origin.
 
 use crate::edition::MAX_BLOCKS;
 use crate::picture::{read, Picture, State};
@@ -48,10 +48,14 @@ fn read_records(bytes: &[u8], endpoints: usize) -> Result<Vec<Record>, u8> {
     bytes.chunks_exact(RECORD_BYTES).map(record).collect()
 }
 
-/// Picture and records of a network in which every link starts at the origin, or the first fault.
+pub fn is_flat(picture: &Picture) -> bool {
+    picture.links.iter().all(|(from, _)| *from == 0)
+}
+
+/// Picture and records of a flat network, or the first fault.
 fn judged(picture: &[u8], records: &[u8]) -> Result<(Picture, Vec<Record>), u8> {
     let picture = read(picture)?;
-    if picture.links.iter().any(|(from, _)| *from != 0) {
+    if !is_flat(&picture) {
         return Err(refusals::LINK_START);
     }
     let records = read_records(records, picture.endpoints.len())?;

@@ -7,7 +7,7 @@ use crate::picture::State;
 use crate::price::{any_records, broken_price, pack_records, price_by_feeders, Counters, Record};
 use crate::price::{MAX_RECORDS, RECORD_BYTES};
 use crate::random::Random;
-use crate::samples::{case_a, in_second, A_BYTES};
+use crate::samples::{case_a, flat_a, in_second, A_BYTES};
 use crate::tie_tests::{drawn, Drawn};
 use crate::{pack, price, price_into, refusals, weigh, Picture};
 
@@ -52,8 +52,7 @@ fn a_record_is_three_bytes_with_the_high_byte_first() {
 
 #[test]
 fn case_a_with_a_flat_link_is_priced_and_as_it_is_refused() {
-    let flat = Picture { links: vec![(0, 1), (0, 2), (0, 3), (0, 4)], ..case_a() };
-    assert_eq!(priced(&flat, &[(1, 500), (2, 40), (1, 6)]), [506, 40]);
+    assert_eq!(priced(&flat_a(), &[(1, 500), (2, 40), (1, 6)]), [506, 40]);
     assert_eq!(price(&A_BYTES, &[]), Err(refusals::LINK_START));
 }
 
@@ -415,9 +414,9 @@ fn counters_are_losses_by_the_sums_of_records() {
         }
         let bytes = pack(&picture);
         let counters = price(&bytes, &pack_records(&records)).expect("a flat network");
-        for block in 0..picture.block_count() {
-            let (_, loss, _) = weigh(&bytes, block as u32).expect("a block");
-            assert_eq!(counters[block], loss, "block {block} of {picture:?}");
+        for (block, counter) in (0..picture.block_count() as u32).zip(counters) {
+            let (_, loss, _) = weigh(&bytes, block).expect("a block");
+            assert_eq!(counter, loss, "block {block} of {picture:?}");
         }
         some += usize::from(counters.iter().any(|counter| *counter > 0));
     }

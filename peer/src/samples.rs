@@ -61,6 +61,11 @@ pub fn second() -> Picture {
     in_second(case_a())
 }
 
+/// Case A with a link from the origin to slot 3, so that every link starts there.
+pub fn flat_a() -> Picture {
+    variant(|picture| picture.links[2] = (0, 3))
+}
+
 fn variant(change: impl FnOnce(&mut Picture)) -> Picture {
     let mut picture = case_a();
     change(&mut picture);

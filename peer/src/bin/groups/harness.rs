@@ -1,14 +1,16 @@
 //! One call at a time on both implementations, each on buffers of its own between guard bytes.
 
+use std::fmt::UpperHex;
 use std::io::{stdout, Write};
 use std::ops::Range;
 use std::process::exit;
 
-use super::watch::{hexadecimal, install, watched, Call};
+use super::watch::{hexadecimal, install, print_bytes, watched, Call};
 use peer::calls::{self, broken_promise, Act};
+use peer::price::broken_price;
 use peer::{archive, Asked, Lists};
 
-/// Guard bytes before and behind each buffer.
+/// Guard items before and behind each buffer.
 const GUARD: usize = 256;
 
 type ArchiveAct = fn(&mut [u8], u32) -> i32;
@@ -22,47 +24,79 @@ fn in_archive(act: Act) -> (&'static str, ArchiveAct) {
     }
 }
 
-/// A buffer inside a larger one whose other bytes must stay.
-struct Guarded {
-    bytes: Vec<u8>,
+/// What buffers consist of: bytes or, where they are lists of numbers, those.
+trait Item: Copy + From<u8> + PartialEq + UpperHex {}
+
+impl Item for u8 {}
+impl Item for u32 {}
+
+/// A buffer inside a larger one whose other items must stay.
+struct Guarded<T> {
+    items: Vec<T>,
     content: Range<usize>,
 }
 
-impl Guarded {
-    /// `shift` moves the buffer's start, so that no alignment is always met.
-    fn new(content: &[u8], shift: usize) -> Guarded {
+impl<T: Item> Guarded<T> {
+    /// `shift` moves the buffer's start, so that no alignment of bytes is always met.
+    fn new(content: &[T], shift: usize) -> Guarded<T> {
         let start = GUARD + shift;
-        let guard = |place: usize| 0xC3 ^ (place as u8).wrapping_mul(29);
-        let mut bytes: Vec<u8> = (0..start).map(guard).collect();
-        bytes.extend_from_slice(content);
-        bytes.extend((0..GUARD).map(guard));
-        Guarded { bytes, content: start..start + content.len() }
+        let guard = |place: usize| T::from(0xC3 ^ (place as u8).wrapping_mul(29));
+        let mut items: Vec<T> = (0..start).map(guard).collect();
+        items.extend_from_slice(content);
+        items.extend((0..GUARD).map(guard));
+        Guarded { items, content: start..start + content.len() }
     }
 
-    fn get(&self) -> &[u8] {
-        &self.bytes[self.content.clone()]
+    fn get(&self) -> &[T] {
+        &self.items[self.content.clone()]
     }
 
-    fn get_mut(&mut self) -> &mut [u8] {
-        &mut self.bytes[self.content.clone()]
+    fn get_mut(&mut self) -> &mut [T] {
+        &mut self.items[self.content.clone()]
     }
 }
 
 /// The same buffer twice: one for the peer, one for the archive.
-struct Pair {
+struct Pair<T> {
     name: &'static str,
-    peer: Guarded,
-    archive: Guarded,
+    peer: Guarded<T>,
+    archive: Guarded<T>,
 }
 
-impl Pair {
-    fn new(name: &'static str, content: &[u8], shift: usize) -> Pair {
+impl<T: Item> Pair<T> {
+    fn new(name: &'static str, content: &[T], shift: usize) -> Pair<T> {
         Pair { name, peer: Guarded::new(content, shift), archive: Guarded::new(content, shift) }
     }
+}
 
+/// A pair of any items, after the calls.
+trait Lent {
+    fn is_equal(&self) -> bool;
+    fn print_difference(&self);
+}
+
+impl<T: Item> Lent for Pair<T> {
     /// The whole buffers, guards included.
     fn is_equal(&self) -> bool {
-        self.peer.bytes == self.archive.bytes
+        self.peer.items == self.archive.items
+    }
+
+    fn print_difference(&self) {
+        let (peer, archive) = (&self.peer.items, &self.archive.items);
+        let places: Vec<usize> = (0..peer.len()).filter(|&at| peer[at] != archive[at]).collect();
+        let first = places[0]..places[0] + 1;
+        // Places below 0 or from the length on are guard items.
+        let place = first.start as i64 - self.peer.content.start as i64;
+        println!(
+            "{} differs in {} places, first at {place} of {}: peer {}, archive {}",
+            self.name,
+            places.len(),
+            self.peer.content.len(),
+            hexadecimal(&peer[first.clone()]),
+            hexadecimal(&archive[first]),
+        );
+        println!("{} after the peer: {}", self.name, hexadecimal(self.peer.get()));
+        println!("{} after the archive: {}", self.name, hexadecimal(self.archive.get()));
     }
 }
 
@@ -162,6 +196,26 @@ impl Comparison {
         self.judge(&call, archive, &[&buffers])
     }
 
+    /// Leaves the counters as the call does.
+    pub fn price(&mut self, picture: &[u8], records: &[u8], counters: &mut [u32]) -> i32 {
+        let mut pictures = Pair::new("picture", picture, self.shift());
+        let mut traffic = Pair::new("records", records, self.shift() / 2);
+        let mut buffers = Pair::new("counters", counters, self.shift() / 4);
+        let peer =
+            as_answer(peer::price_into(pictures.peer.get(), traffic.peer.get(), buffers.peer.get_mut()));
+        let inputs = vec![("picture", picture.to_vec()), ("records", records.to_vec())];
+        let call = Call { name: "price", inputs, number: ("counters", counters.len()), peer };
+        let archive = watched(&call, || {
+            archive::price(
+                pictures.archive.get_mut(),
+                traffic.archive.get_mut(),
+                buffers.archive.get_mut(),
+            )
+        });
+        counters.copy_from_slice(buffers.peer.get());
+        self.judge(&call, archive, &[&pictures, &traffic, &buffers])
+    }
+
     /// The two agree, but on an answer that the input is not built for.
     pub fn expect(&self, what: &str, answer: i32, due: i32) {
         if answer != due {
@@ -173,18 +227,31 @@ impl Comparison {
     /// The two agree, but on bytes that do not keep what every list of calls keeps.
     pub fn expect_kept(&self, earlier: &[u8], calls: &[calls::Call], later: &[u8]) {
         let Some(broken) = broken_promise(earlier, later) else { return };
-        println!("\npromise broken in group \"{}\", input {}: {broken}", self.group, self.total());
+        self.print_broken(&broken);
         for made in calls {
             println!("call: {}, block {}", in_archive(made.act).0, made.block);
         }
-        for (name, bytes) in [("before", earlier), ("after", later)] {
-            println!("{name} ({} bytes): {}", bytes.len(), hexadecimal(bytes));
-        }
+        print_bytes("before", earlier);
+        print_bytes("after", later);
         exit(1);
     }
 
+    /// The two agree, but on counters that are not what the request says.
+    pub fn expect_priced(&self, picture: &[u8], records: &[u8], counters: &[u32]) {
+        let Some(broken) = broken_price(picture, records, counters) else { return };
+        self.print_broken(&broken);
+        print_bytes("picture", picture);
+        print_bytes("records", records);
+        println!("counters: {counters:?}");
+        exit(1);
+    }
+
+    fn print_broken(&self, broken: &str) {
+        println!("\npromise broken in group \"{}\", input {}: {broken}", self.group, self.total());
+    }
+
     /// Ends the run at a difference; otherwise gives the answer of both.
-    fn judge(&mut self, call: &Call, archive: i32, buffers: &[&Pair]) -> i32 {
+    fn judge(&mut self, call: &Call, archive: i32, buffers: &[&dyn Lent]) -> i32 {
         self.in_group += 1;
         if call.peer == archive && buffers.iter().all(|pair| pair.is_equal()) {
             return archive;
@@ -192,7 +259,7 @@ impl Comparison {
         self.print_place(call);
         println!("peer answers {}, archive answers {archive}", call.peer);
         for pair in buffers.iter().filter(|pair| !pair.is_equal()) {
-            print_difference(pair);
+            pair.print_difference();
         }
         exit(1);
     }
@@ -230,23 +297,6 @@ fn sizes(seed: u64, asked: &Asked) -> Vec<(&'static str, Vec<u8>)> {
         ("links", asked.links.to_be_bytes().to_vec()),
         ("serving links", asked.serving.to_be_bytes().to_vec()),
     ]
-}
-
-fn print_difference(pair: &Pair) {
-    let (peer, archive) = (&pair.peer.bytes, &pair.archive.bytes);
-    let places: Vec<usize> = (0..peer.len()).filter(|&at| peer[at] != archive[at]).collect();
-    // Places below 0 or from the length on are guard bytes.
-    let place = places[0] as i64 - pair.peer.content.start as i64;
-    println!(
-        "{} differs in {} bytes, first at {place} of {}: peer {:02X}, archive {:02X}",
-        pair.name,
-        places.len(),
-        pair.peer.content.len(),
-        peer[places[0]],
-        archive[places[0]],
-    );
-    println!("{} after the peer: {}", pair.name, hexadecimal(pair.peer.get()));
-    println!("{} after the archive: {}", pair.name, hexadecimal(pair.archive.get()));
 }
 
 fn length_answer(result: Result<usize, u8>) -> i32 {

@@ -8,6 +8,7 @@ pub mod harness;
 mod lists;
 mod networks;
 mod pictures;
+mod price;
 mod raw;
 mod ties;
 mod watch;
@@ -25,7 +26,7 @@ const ROOM: usize = MAX_EVIDENCE_BYTES + 11;
 
 type Group = fn(&mut Comparison, &mut Random, usize);
 
-pub const ALL: [(&str, Group); 41] = [
+pub const ALL: [(&str, Group); 47] = [
     ("truncations of the samples", pictures::truncations),
     ("bit flips of the samples", pictures::bit_flips),
     ("wrong ends of links", pictures::wrong_ends),
@@ -67,6 +68,12 @@ pub const ALL: [(&str, Group); 41] = [
     ("generate: networks", generate::networks),
     ("generate: limits and one more", generate::limits),
     ("generate: several faults", generate::several),
+    ("price: flat networks", price::flat_networks),
+    ("price: links from elsewhere", price::elsewhere),
+    ("price: each value", price::values),
+    ("price: limits and one more", price::limits),
+    ("price: several faults", price::several),
+    ("price: damaged pictures", price::damaged),
 ];
 
 /// A network of any shape, mostly a small one: once in `of` rounds one of any size and, half way
@@ -131,6 +138,7 @@ fn every_call(comparison: &mut Comparison, random: &mut Random, picture: &[u8]) 
     let blocks = peer::read(picture).map_or(2, |picture| picture.block_count() as u32);
     let outside = no_blocks(random, blocks);
     all_acts(comparison, picture, (0..blocks).chain(outside));
+    price::any(comparison, random, picture);
 }
 
 /// A few calls on one picture, where there are many pictures.
@@ -140,4 +148,5 @@ fn some_calls(comparison: &mut Comparison, random: &mut Random, picture: &[u8]) 
     comparison.check(picture, &canonical(picture).unwrap_or_default());
     let block = random.below(4) as u32;
     comparison.act(&Call { act: *random.pick(&ACTS), block }, &mut picture.to_vec());
+    price::any(comparison, random, picture);
 }

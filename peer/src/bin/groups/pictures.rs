@@ -43,6 +43,7 @@ pub fn wrong_ends(comparison: &mut Comparison, _: &mut Random, _: usize) {
                 comparison.choose(&bytes, 43),
                 comparison.check(&bytes, &samples::A_EVIDENCE),
                 comparison.write(&lists_of(&picture), &mut bytes.clone()),
+                comparison.price(&bytes, &[0], &mut []),
             ];
             answers.extend(ACTS.map(|act| comparison.act(&Call { act, block: 0 }, &mut bytes)));
             for answer in answers {
@@ -159,7 +160,7 @@ pub fn damaged(comparison: &mut Comparison, random: &mut Random, count: usize) {
     }
 }
 
-fn bytes_changed(random: &mut Random, bytes: &[u8]) -> Vec<u8> {
+pub fn bytes_changed(random: &mut Random, bytes: &[u8]) -> Vec<u8> {
     let mut changed = bytes.to_vec();
     for _ in 0..random.between(1, 4) {
         let place = random.below(changed.len());
@@ -172,7 +173,7 @@ fn bytes_changed(random: &mut Random, bytes: &[u8]) -> Vec<u8> {
     changed
 }
 
-fn length_changed(random: &mut Random, bytes: &[u8]) -> Vec<u8> {
+pub fn length_changed(random: &mut Random, bytes: &[u8]) -> Vec<u8> {
     let mut changed = bytes.to_vec();
     match random.below(3) {
         0 => changed.truncate(random.below(bytes.len())),

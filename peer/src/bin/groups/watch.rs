@@ -2,6 +2,8 @@
 //! like any other, only that nothing after it can be printed by the usual way.
 
 use std::ffi::c_int;
+use std::fmt::UpperHex;
+use std::mem::size_of;
 use std::process::exit;
 use std::sync::Mutex;
 
@@ -30,7 +32,7 @@ impl Call {
     pub fn print(&self) {
         println!("call: {}, {} {}", self.name, self.number.0, self.number.1);
         for (name, bytes) in &self.inputs {
-            println!("{name} ({} bytes): {}", bytes.len(), hexadecimal(bytes));
+            print_bytes(name, bytes);
         }
     }
 }
@@ -74,6 +76,12 @@ extern "C" fn tell(number: c_int) {
     exit(1);
 }
 
-pub fn hexadecimal(bytes: &[u8]) -> String {
-    bytes.iter().map(|byte| format!("{byte:02X}")).collect()
+pub fn print_bytes(name: &str, bytes: &[u8]) {
+    println!("{name} ({} bytes): {}", bytes.len(), hexadecimal(bytes));
+}
+
+/// Each item with all its digits.
+pub fn hexadecimal<T: UpperHex>(items: &[T]) -> String {
+    let digits = 2 * size_of::<T>();
+    items.iter().map(|item| format!("{item:0digits$X}")).collect()
 }
