@@ -11,12 +11,13 @@ use peer::choice::{Plan, Section};
 use peer::edition::{EDITIONS, FIRST, MAX_BLOCK_SIZE, MAX_ENDPOINTS, MAX_LINKS};
 use peer::faults::{wrong_ends, FAULTS};
 use peer::foreign::{self, GROWTHS};
-use peer::networks::{any_edition, network, tied, Size, SHAPES};
+use peer::networks::{any_edition, flat, network, tied, Size, SHAPES};
 use peer::picture::{Endpoint, Picture, State};
+use peer::price::{any_records, pack_records};
 use peer::random::Random;
 use peer::refusals::number_of;
 use peer::{
-    check, choose, generate, lists_of, pack, samples, show, weigh, write, Asked, Edition, Lists,
+    check, choose, generate, lists_of, pack, price, samples, show, weigh, write, Asked, Edition, Lists,
 };
 
 const DEFAULT_SEED: u64 = 77;
@@ -34,6 +35,8 @@ const DRAWS: usize = 12;
 const GENERATED: usize = 3;
 /// Small networks of each edition on which lists of calls are made.
 const CALLED: usize = 2;
+/// Small flat networks of each edition that are priced.
+const PRICED: usize = 2;
 /// Longer than evidence and picture of a small network, and what the buffer holds before.
 const ROOM: usize = 500;
 const BEFORE: u8 = 0xEE;
@@ -466,16 +469,64 @@ fn ask_calls(table: &mut Table, random: &mut Random) {
     }
 }
 
+fn ask_price(table: &mut Table, bytes: &[u8], records: &[u8]) {
+    let answer = price(bytes, records).map(|counters| counters.to_vec());
+    table.add_answer(format!("price {} {}", list(bytes), list(records)), answer);
+}
+
+/// A small flat network and a few records by which some block of it loses something.
+fn small_priced(random: &mut Random, edition: Edition) -> (Picture, Vec<u8>) {
+    loop {
+        let block_size = random.between(1, 3);
+        let size = Size {
+            edition,
+            block_size,
+            slots: block_size * random.between(2, 6 / block_size),
+            endpoints: random.between(1, 3),
+            links: random.between(2, 8),
+            serving: random.between(2, 6),
+        };
+        let picture = flat(random, size);
+        let count = random.between(1, 5);
+        let records = pack_records(&any_records(random, size.endpoints, count));
+        let counters = price(&pack(&picture), &records).expect("a flat network");
+        if counters.iter().any(|counter| *counter > 0) {
+            return (picture, records);
+        }
+    }
+}
+
+/// Flat networks with records that are right, with none, and with faults, one more each time from the
+/// last to the first, so that the order shows.
+fn ask_prices(table: &mut Table, random: &mut Random) {
+    for edition in EDITIONS.repeat(PRICED) {
+        let (picture, records) = small_priced(random, edition);
+        ask_price(table, &pack(&picture), &records);
+    }
+    ask_price(table, &pack(&samples::flat_a()), &[]);
+    for edition in EDITIONS {
+        let (mut picture, mut records) = small_priced(random, edition);
+        records[0] = *random.pick(&[0, picture.endpoints.len() as u8 + 1, 255]);
+        ask_price(table, &pack(&picture), &records);
+        records.pop();
+        ask_price(table, &pack(&picture), &records);
+        picture.links[0].0 = random.between(1, picture.slots.len()) as u16;
+        ask_price(table, &pack(&picture), &records);
+        ask_price(table, &[pack(&picture), vec![0]].concat(), &records);
+    }
+}
+
 type Ask = fn(&mut Table, &mut Random);
 
 /// What questions are about, in their order in the table.
-const KINDS: [(&str, &[Ask]); 6] = [
+const KINDS: [(&str, &[Ask]); 7] = [
     ("pictures", &[ask_pictures, ask_wide, ask_second]),
     ("lists", &[ask_written, ask_blocks, ask_editions]),
     ("ties", &[ask_ties]),
     ("links", &[ask_links]),
     ("seeds", &[ask_draws, ask_networks, ask_sizes]),
     ("calls", &[ask_calls]),
+    ("prices", &[ask_prices]),
 ];
 
 fn main() {
