@@ -1,11 +1,12 @@
-//! Times of the archive and of the peer in one run, their growth, their spread over a thousand generated
-//! networks, and the archive's peak stack, for pictures of both editions.
+//! Times of the archive and of the peer in one run, records priced in a second, the growth of times, their
+//! spread over a thousand generated networks, and the archive's peak stack, for pictures of both editions.
 //!
 //! `bench [REPETITIONS]`: of how many measurements each time is the median.
 //! `bench load`: the generated networks alone.
 //! `bench stack`: the peak stack alone; ends with status 1 where it is over the header's limit.
 
 mod load;
+mod price;
 mod stack;
 mod times;
 
@@ -22,6 +23,7 @@ use peer::random::Random;
 use peer::{lists_of, pack, samples, Asked, Lists};
 
 use load::print_load;
+use price::print_prices;
 use times::{Both, Effort, Times};
 
 const DEFAULT_REPETITIONS: usize = 15;
@@ -282,8 +284,9 @@ fn growth(before: Option<Both>, now: Both) -> String {
     }
 }
 
-/// The calls are lent buffers that are long enough for every picture, as a terminal lends them.
-fn peaks(picture: &Picture) -> ([usize; 6], Option<usize>) {
+/// The calls are lent buffers that are long enough for every picture, as a terminal lends them. Price is
+/// called on a flat network of the picture's size.
+fn peaks(picture: &Picture) -> ([usize; 7], Option<usize>) {
     let case = Case::of(picture);
     let [evict, reload, free] = &case.acts;
     let mut evidence = vec![0; MAX_EVIDENCE_BYTES];
@@ -301,6 +304,7 @@ fn peaks(picture: &Picture) -> ([usize; 6], Option<usize>) {
         stack::peak(&mut || {
             archive::write(&case.lists, &mut written);
         }),
+        price::peak(picture),
     ];
     let generate = case.asked.map(|asked| {
         stack::peak(&mut || {
@@ -314,15 +318,16 @@ fn peaks(picture: &Picture) -> ([usize; 6], Option<usize>) {
 fn print_stack() -> usize {
     println!("peak stack of the archive's calls in bytes (upper estimates: a page of 4096 is added)");
     println!(
-        "{:<36}{:>10}{:>10}{:>10}{:>10}{:>10}{:>10}{:>10}",
-        "case", "choose", "check", "evict", "reload", "free", "write", "generate"
+        "{:<36}{:>10}{:>10}{:>10}{:>10}{:>10}{:>10}{:>10}{:>10}",
+        "case", "choose", "check", "evict", "reload", "free", "write", "generate", "price"
     );
     let mut most = 0;
     for (name, picture) in cases() {
         let (peaks, generate) = peaks(&picture);
-        let [choose, check, evict, reload, free, write] = peaks;
+        let [choose, check, evict, reload, free, write, price] = peaks;
         print!("{name:<36}{choose:>10}{check:>10}{evict:>10}{reload:>10}{free:>10}{write:>10}");
-        println!("{:>10}", generate.map_or("-".to_string(), |bytes| bytes.to_string()));
+        print!("{:>10}", generate.map_or("-".to_string(), |bytes| bytes.to_string()));
+        println!("{price:>10}");
         most = peaks.into_iter().chain(generate).fold(most, usize::max);
     }
     most
@@ -344,6 +349,8 @@ fn main() {
     };
     let effort = Effort { measurements: repetitions, least_time: LEAST_TIME };
     print_times(effort);
+    println!();
+    print_prices(effort);
     println!();
     print_growth(effort);
     println!();
