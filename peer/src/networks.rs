@@ -185,7 +185,7 @@ pub fn dense_held(random: &mut Random, size: Size) -> Picture {
 /// end at the origin, and in many networks most endpoints have one block that serves them.
 pub fn flat(random: &mut Random, size: Size) -> Picture {
     let mut picture = network(random, Shape::Flat, size);
-    start_at_origin(&mut picture);
+    picture.links.iter_mut().for_each(|(from, _)| *from = 0);
     let (origin, elsewhere) = (rarely(random), *random.pick(&[0, 1, 4, 32]));
     serve_from_homes(random, &mut picture, origin, elsewhere);
     picture
@@ -195,13 +195,10 @@ pub fn flat(random: &mut Random, size: Size) -> Picture {
 /// reached, and each endpoint has one block that serves it.
 pub fn flat_held(random: &mut Random, size: Size) -> Picture {
     let mut picture = dense_held(random, size);
-    start_at_origin(&mut picture);
+    picture.links = (0..size.links).map(|link| (0, (link % size.slots + 1) as u16)).collect();
+    random.shuffle(&mut picture.links);
     serve_from_homes(random, &mut picture, 0, 0);
     picture
-}
-
-fn start_at_origin(picture: &mut Picture) {
-    picture.links.iter_mut().for_each(|(from, _)| *from = 0);
 }
 
 /// Lets each endpoint's serving links start at slots of one block, but for so many of 64 at the origin and
