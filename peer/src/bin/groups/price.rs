@@ -4,7 +4,7 @@
 use peer::edition::{FIRST, MAX_BLOCKS, MAX_ENDPOINTS};
 use peer::networks::{any_edition, flat, Size};
 use peer::picture::{Picture, State};
-use peer::price::{any_records, is_flat, pack_records, MAX_RECORDS, RECORD_BYTES};
+use peer::price::{any_records, is_flat, pack_records, Record, MAX_RECORDS, RECORD_BYTES};
 use peer::random::Random;
 use peer::{pack, read, refusals, samples};
 
@@ -68,11 +68,17 @@ pub fn any(comparison: &mut Comparison, random: &mut Random, picture: &[u8]) {
     Inputs { picture, records: &records }.any_buffer(comparison, random);
 }
 
-/// Up to some tens of records, or none.
+/// Up to some tens of records, or none; once in four times each endpoint has one besides.
 fn some_records(random: &mut Random, endpoints: usize) -> Vec<u8> {
     let most = *random.pick(&[0, 1, 6, 6, 80]);
     let count = random.between(0, most);
-    pack_records(&any_records(random, endpoints, count))
+    let mut records = any_records(random, endpoints, count);
+    if random.once_in(4) {
+        let of = |endpoint| Record { endpoint, weight: random.draw() as u16 };
+        records.extend((1..=endpoints as u8).map(of));
+        random.shuffle(&mut records);
+    }
+    pack_records(&records)
 }
 
 /// Mostly small ones, some of any size and some at all limits.
@@ -153,7 +159,7 @@ pub fn values(comparison: &mut Comparison, random: &mut Random, _: usize) {
 
 /// In a record before or behind right ones.
 fn each_endpoint(comparison: &mut Comparison, random: &mut Random, endpoints: usize) {
-    let size = Size { edition: any_edition(random), endpoints, ..PLAIN };
+    let size = Size { edition: any_edition(random), endpoints, serving: 3 * endpoints, ..PLAIN };
     let picture = pack(&flat(random, size));
     for endpoint in 0..=255 {
         let is_there = (1..=endpoints).contains(&usize::from(endpoint));
