@@ -9,7 +9,7 @@ use Rattle.std.specs.Prelude.{Result, Ok, Err, IsErrAnd, is_err}
 use Rattle.std.proofs.lemmas.Result.{err_from_is_err_and}
 use Rattle.lists.specs.Lists.{first, outcome}
 use Rattle.picture.specs.declared.refusals.Refusal.{Refusal}
-use Rattle.picture.specs.declared.refusals.Refusal.TheVariants.{Short, Edition, Blocks, Counts, State, Link, Fill, NoBlock, Buffer, Protected, NoChange, Near, Form, Forest, Weight, Verdict, ServiceLocation, ServiceEndpoint}
+use Rattle.picture.specs.declared.refusals.Refusal.TheVariants.{Short, Edition, Blocks, Counts, State, Link, Fill, NoBlock, Buffer, Protected, NoChange, Near, Form, Forest, Weight, Verdict, ServiceLocation, ServiceEndpoint, LinkStart, Records, RecordEndpoint}
 use Rattle.picture.specs.Refusals.{refusal_number, refusal_of, fault_of, answer_of, answer_numbers}
 
 -- a refusal has a number, and is the refusal of it
@@ -38,6 +38,9 @@ numbered Weight = record { less = 14; number = refl; back = refl }
 numbered Verdict = record { less = 15; number = refl; back = refl }
 numbered ServiceLocation = record { less = 16; number = refl; back = refl }
 numbered ServiceEndpoint = record { less = 17; number = refl; back = refl }
+numbered LinkStart = record { less = 18; number = refl; back = refl }
+numbered Records = record { less = 19; number = refl; back = refl }
+numbered RecordEndpoint = record { less = 20; number = refl; back = refl }
 
 -- no refusal has number 0
 pub number_some : (e : Refusal) → refusal_number e ≢ 0

@@ -1,7 +1,7 @@
 -- Refusals and answers, for every call: document 01's numbers for each of their cases. Assumes nothing.
 use Rattle.std.specs.Prelude.{List, [], ◌∷◌, ℕ, zero, suc, ◌-◌, Result, Ok, Err, get_or}
 use Rattle.picture.specs.declared.refusals.Refusal.{Refusal}
-use Rattle.picture.specs.declared.refusals.Refusal.TheVariants.{Short, Edition, Blocks, Counts, State, Link, Fill, NoBlock, Buffer, Protected, NoChange, Near, Form, Forest, Weight, Verdict, ServiceLocation, ServiceEndpoint}
+use Rattle.picture.specs.declared.refusals.Refusal.TheVariants.{Short, Edition, Blocks, Counts, State, Link, Fill, NoBlock, Buffer, Protected, NoChange, Near, Form, Forest, Weight, Verdict, ServiceLocation, ServiceEndpoint, LinkStart, Records, RecordEndpoint}
 
 -- the number of each refusal
 abbrev pub refusal_number : Refusal → ℕ
@@ -23,12 +23,15 @@ refusal_number Weight = 15
 refusal_number Verdict = 16
 refusal_number ServiceLocation = 17
 refusal_number ServiceEndpoint = 18
+refusal_number LinkStart = 19
+refusal_number Records = 20
+refusal_number RecordEndpoint = 21
 
 -- the refusals in the order of their numbers, from 1 on
 abbrev pub refusals : List Refusal
-refusals = Short ∷ Edition ∷ Blocks ∷ Counts ∷ State ∷ Link ∷ Fill ∷ NoBlock ∷ Buffer ∷ Protected ∷ NoChange ∷ Near ∷ Form ∷ Forest ∷ Weight ∷ Verdict ∷ ServiceLocation ∷ ServiceEndpoint ∷ []
+refusals = Short ∷ Edition ∷ Blocks ∷ Counts ∷ State ∷ Link ∷ Fill ∷ NoBlock ∷ Buffer ∷ Protected ∷ NoChange ∷ Near ∷ Form ∷ Forest ∷ Weight ∷ Verdict ∷ ServiceLocation ∷ ServiceEndpoint ∷ LinkStart ∷ Records ∷ RecordEndpoint ∷ []
 
--- the refusal of a number. 0 and what is over 18 are none, and stand for the first here: no call has such a first fault but 0, where it is done
+-- the refusal of a number. 0 and what is over 21 are none, and stand for the first here: no call has such a first fault but 0, where it is done
 unfoldable pub refusal_of : ℕ → Refusal
 refusal_of k = get_or refusals (k - 1) Short
 

@@ -46,6 +46,12 @@ pub enum Refusal {
     ServiceLocation,
     // The endpoint of a service link is 0 or above D.
     ServiceEndpoint,
+    // Price: a link starts elsewhere than at the origin.
+    LinkStart,
+    // Price: the length of the records is no multiple of three, or there are more than 60,000.
+    Records,
+    // Price: the endpoint of a record is 0 or above D.
+    RecordEndpoint,
 }
 
 impl Refusal {
@@ -73,6 +79,9 @@ impl Refusal {
             Refusal::Verdict => 16,
             Refusal::ServiceLocation => 17,
             Refusal::ServiceEndpoint => 18,
+            Refusal::LinkStart => 19,
+            Refusal::Records => 20,
+            Refusal::RecordEndpoint => 21,
         }
     }
 }

@@ -1,0 +1,144 @@
+// Pricing the blocks of a flat network, where every link starts at the origin: what each block would lose, by one pass over records of traffic.
+#![tactic(auto)]
+
+ghost use Rattle.std.specs.Prelude.{◌≡◌, ◌*◌, ◌≤◌, ◌<◌, length, get_or};
+ghost use Rattle.lists.specs.Lists.{outcome};
+ghost use Rattle.picture.specs.Layout.{endpoints_max, weight_max};
+ghost use Rattle.picture.specs.Picture.{picture_of};
+ghost use Rattle.network.specs.Words.{endpoint_count};
+ghost use Rattle.price.specs.Traffic.{no_record, record_bytes, records_max, records_of};
+ghost use Rattle.price.specs.Faults.{length_fault, price_fault};
+ghost use Rattle.price.specs.Answers.{counters, pricing, pricing_numbers};
+ghost use Rattle.price.specs.Inner.{SlotsReached, ReachedRow, joint, LocationsTell, EndpointsTell, Adding};
+
+use network::ENDPOINTS;
+use picture::{BLOCKS_MAX, Picture, Refusal};
+use rows::{LOCATIONS, Row, WORDS};
+
+// A record has its endpoint in one byte and its weight in two, high byte first.
+const RECORD_BYTES: usize = 3;
+
+const RECORDS_MAX: usize = 60_000;
+
+// What the service links to an endpoint tell: the number of its one feeder, or one of these two.
+const NO_FEEDER: u8 = 254;
+
+const NOT_ONE: u8 = 255;
+
+// What an endpoint read weighs so much.
+#[derive(Clone, Copy)]
+pub struct Record {
+    pub endpoint: usize,
+    pub weight: u32,
+}
+
+// Record i, counted from 0.
+fn nth_record(records: &[u8], i: usize) -> Record
+    requires { i * record_bytes + record_bytes ≤ length records.now }
+    ensures reads { result ≡ get_or (records_of records.now) i no_record }
+    ensures small { result.weight ≤ weight_max }
+{
+    let at = i * RECORD_BYTES;
+    Record {
+        endpoint: usize::from(records[at]),
+        weight: u32::from(records[at + 1]) * 256 + u32::from(records[at + 2]),
+    }
+}
+
+// The row of the slots that are reached: in a flat network these are the held ones with a link from the origin.
+fn reached_slots(p: &Picture) -> Result<Row, Refusal>
+    ensures { SlotsReached (picture_of p.now) result }
+{
+    let s = p.bytes();
+    let h = p.header();
+    let held = network::slot_rows(p).held;
+    let mut reached = [0u64; WORDS];
+    for i in 0..h.links {
+        let l = picture::nth_link(s, h, h.edition.location_bits, i);
+        if l.from != 0 {
+            return Err(Refusal::LinkStart);
+        }
+        if rows::has(&held, l.to) {
+            rows::add(&mut reached, l.to);
+        }
+    }
+    Ok(reached)
+}
+
+// What a service link from each location tells of its endpoint: its block feeds it, or nothing does; the origin, that no block is its one feeder.
+fn location_feeders(p: &Picture, reached: &Row) -> [u8; LOCATIONS]
+    requires { ReachedRow (picture_of p.now) reached.now }
+    ensures { LocationsTell (picture_of p.now) result }
+{
+    let h = p.header();
+    let mut feeders = [NO_FEEDER; LOCATIONS];
+    feeders[0] = NOT_ONE;
+    for v in 1..=h.slots {
+        if rows::has(reached, v) {
+            feeders[v] = ((v - 1) / h.block_size) as u8;
+        }
+    }
+    feeders
+}
+
+// What two service links to one endpoint tell together.
+fn joint(one: u8, other: u8) -> u8
+    ensures { result ≡ joint one other }
+{
+    if one == NO_FEEDER || one == other {
+        other
+    } else if other == NO_FEEDER {
+        one
+    } else {
+        NOT_ONE
+    }
+}
+
+// The one feeder of each endpoint: what all service links to it tell together.
+fn endpoint_feeders(p: &Picture, locations: &[u8; LOCATIONS]) -> [u8; ENDPOINTS]
+    requires { LocationsTell (picture_of p.now) locations.now }
+    ensures { EndpointsTell (picture_of p.now) result }
+{
+    let s = p.bytes();
+    let h = p.header();
+    let mut feeders = [NO_FEEDER; ENDPOINTS];
+    for i in (1..=h.service_links).rev() {
+        let l = picture::nth_service_link(s, h, h.edition.location_bits, i - 1);
+        feeders[l.to] = joint(locations[l.from], feeders[l.to]);
+    }
+    feeders
+}
+
+// The pass over the records: each adds its weight to the one feeder of its endpoint, if it has one.
+fn add_up(records: &[u8], feeders: &[u8; ENDPOINTS], d: usize) -> Result<[u32; BLOCKS_MAX], Refusal>
+    requires { (length records.now ≤ records_max * record_bytes) × (d ≤ endpoints_max) }
+    ensures { Adding feeders.now d (records_of records.now) result }
+{
+    let mut counters = [0u32; BLOCKS_MAX];
+    for i in 0..records.len() / RECORD_BYTES {
+        let r = nth_record(records, i);
+        if r.endpoint == 0 || d < r.endpoint {
+            return Err(Refusal::RecordEndpoint);
+        }
+        let b = usize::from(feeders[r.endpoint]);
+        if b < BLOCKS_MAX {
+            counters[b] += r.weight;
+        }
+    }
+    Ok(counters)
+}
+
+// Prices the blocks of a picture of any bytes from records of any bytes.
+pub fn price(s: &[u8], records: &[u8]) -> Result<[u32; BLOCKS_MAX], Refusal>
+    ensures answer { result ≡ pricing s.now records.now }
+    ensures numbers { pricing_numbers result ≡ outcome (price_fault s.now records.now) (counters (picture_of s.now) (records_of records.now)) }
+{
+    let p = Picture::read(s)?;
+    let reached = reached_slots(&p)?;
+    if records.len() % RECORD_BYTES != 0 || RECORDS_MAX * RECORD_BYTES < records.len() {
+        return Err(Refusal::Records);
+    }
+    let locations = location_feeders(&p, &reached);
+    let feeders = endpoint_feeders(&p, &locations);
+    add_up(records, &feeders, p.header().endpoints)
+}
