@@ -17,7 +17,7 @@ use Rattle.graph.specs.Held.{held_in, SlotsOnly}
 use Rattle.graph.specs.Steps.{Walked}
 use Rattle.graph.specs.Sweeps.{Locations, Ready, Swept}
 use Rattle.lists.proofs.Tests.{is_false, or_T, T-or-l, T-or-r, eq_T}
-use Rattle.lists.proofs.Picks.{zeros_at}
+use Rattle.lists.proofs.Picks.{copies_at}
 use Rattle.graph.proofs.Chains.{chain_within, origin_fewest}
 use Rattle.graph.proofs.Forests.{fewest_reached}
 use Rattle.graph.proofs.Levels.{Levels, levels_begun, levels_next, levels_entry, levels_origin, taken_reached, reached_taken}
@@ -62,8 +62,8 @@ module _ {r : Range} {links : List (List ℕ)} {held : List ℕ} {n words : ℕ}
             (rw (origin_alone 0) tt)
             (is_false (marked held 0) (λ t. absurd (omega (arith, only.above 0 t))))
             (slot_held held)
-            (zeros_at locations_max)
-            (zeros_at locations_max);
+            (copies_at 0 locations_max)
+            (copies_at 0 locations_max);
       }
     where
       origin_alone : (v : ℕ) → marked (set (replicate row_words 0) 0 1) v ≡ eqb v 0

@@ -38,11 +38,11 @@ pub map_back : {A B : Type 0} (d : A) (f : A → B) (g : B → A) (l : List A) �
 map_back d f g [] h = refl
 map_back {A} d f g (x ∷ l) h = ap₂ {C = List A} (λ (y : A) (r : List A). y ∷ r) (h 0 (suc-le-suc zero-le)) (map_back d f g l (λ i s. h (suc i) (suc-le-suc s)))
 
--- in a list of zeros, and past its end, there is nothing else
-pub zeros_at : (n i : ℕ) → get_or {A = ℕ} (replicate n 0) i 0 ≡ 0
-zeros_at zero i = refl
-zeros_at (suc n) zero = refl
-zeros_at (suc n) (suc i) = zeros_at n i
+-- in a list of copies, and past its end, there is nothing else
+pub copies_at : {A : Type 0} (d : A) (n i : ℕ) → get_or (replicate n d) i d ≡ d
+copies_at d zero i = refl
+copies_at d (suc n) zero = refl
+copies_at d (suc n) (suc i) = copies_at d n i
 
 -- ---- the elements that a filter leaves
 

@@ -1,49 +1,20 @@
 -- The endpoints' weights in an array and the row of the protected ones, once every endpoint is looked at. Assumes nothing.
 use mathlib.Core.Path.{◌≡◌, sym, ap, ◌∙◌}
 use mathlib.Core.Bool.{false, ◌&&◌}
-use mathlib.Core.Logic.{by_cases, ⊎_elim}
+use mathlib.Core.Logic.{⊎_elim}
 use mathlib.Core.List.{List}
-use Prim.Native.Nat.{ℕ, zero, suc, ◌-◌, ◌≤◌, ◌<◌}
+use Prim.Native.Nat.{ℕ, zero, suc, ◌≤◌, ◌<◌}
 use native.Mathlib.Omega.{arith}
-use native.Mathlib.Decide.{ℕ_discrete}
 use borrow.Author.Tests.{lt-ltb}
 use lib.Dec.{ltb}
-use lib.ListN.{length, get_or, set, replicate, length-set, length-replicate}
-use lib.Seq.{get_or-set_same, get_or-set_other}
-use Rattle.lists.proofs.Picks.{item_inside, zeros_at}
+use lib.ListN.{length, get_or}
+use Rattle.lists.proofs.Picks.{item_inside}
+use Rattle.lists.proofs.Filling.{Filled}
 use Rattle.picture.specs.Picture.{Endpoint, Picture, endpoint_of}
 use Rattle.picture.specs.Layout.{endpoints_max}
 use Rattle.network.specs.Words.{weight_of}
 use Rattle.network.specs.Rows.{EndpointsOf}
 use Rattle.network.proofs.Making.{Above}
-
--- the weights of the endpoints above c stand in the array, and 0 elsewhere
-pub record Weighing (w : ℕ → ℕ) (weights : List ℕ) (c : ℕ) : Type 0 where
-  pub many : length weights ≡ suc endpoints_max
-  pub seen : (u : ℕ) → c < u → get_or weights u 0 ≡ w u
-  pub unseen : (u : ℕ) → u ≤ c → get_or weights u 0 ≡ 0
-
-module _ (w : ℕ → ℕ) where
-  pub weighing_begun : (c : ℕ) → ((u : ℕ) → c < u → w u ≡ 0) → Weighing w (replicate (suc endpoints_max) 0) c
-  weighing_begun c h =
-      record {
-        many = length-replicate {A = ℕ} (suc endpoints_max) 0;
-        seen = λ u l. zeros_at (suc endpoints_max) u ∙ sym (h u l);
-        unseen = λ u l. zeros_at (suc endpoints_max) u;
-      }
-
-  pub weighing_next : (weights : List ℕ) (c x : ℕ) → 1 ≤ c → c ≤ endpoints_max → Weighing w weights c → x ≡ w c → Weighing w (set weights c x) (c - 1)
-  weighing_next weights c x l m r e =
-      record {
-        many = length-set weights c x ∙ r.many;
-        seen =
-            λ u h.
-            by_cases
-            (ℕ_discrete u c)
-            (λ q. ap (λ (k : ℕ). get_or (set weights c x) k 0) q ∙ get_or-set_same weights c x 0 (omega (arith, r.many)) ∙ e ∙ ap w (sym q))
-            (λ n. get_or-set_other weights c u x 0 n ∙ r.seen u (omega arith));
-        unseen = λ u h. get_or-set_other weights c u x 0 (λ q. absurd (omega arith)) ∙ r.unseen u (omega arith);
-      }
 
 -- what is no endpoint's number has no weight, and is not protected
 pub endpoint_inside : (p : Picture) (c : ℕ) → ¬ ((1 ≤ c) × (c ≤ length p.endpoints)) → endpoint_of p c ≡ record { weight = 0; protected = false }
@@ -58,7 +29,7 @@ pub protected_outside : (p : Picture) (c : ℕ) → ¬ ((1 ≤ c) × (c ≤ leng
 protected_outside p c n = ap (λ (x : Endpoint). x.protected) (endpoint_inside p c n)
 
 -- every endpoint was looked at
-pub endpoints_looked : (p : Picture) (weights guarded : List ℕ) (c : ℕ) → c < 1 → Weighing (weight_of p) weights c
+pub endpoints_looked : (p : Picture) (weights guarded : List ℕ) (c : ℕ) → c < 1 → Filled (suc endpoints_max) 0 (weight_of p) weights c
     → Above (λ u. (endpoint_of p u).protected) guarded c → EndpointsOf p weights guarded
 endpoints_looked p weights guarded c z w s = record { many = w.many; weight = weight; protected = λ u. rw none at s.same u ∙ protected u }
   where

@@ -1,10 +1,10 @@
 -- What the functions within pricing give. Inner: nothing here is promised. Assumes nothing.
-use Rattle.std.specs.Prelude.{Bool, ◌&&◌, ◌||◌, cond, List, [], ◌∷◌, map, ◌≡◌, ℕ, suc, ◌-◌, ◌/◌, Result, Ok, eqb, ltb, length, get_or}
+use Rattle.std.specs.Prelude.{Bool, ◌&&◌, ◌||◌, cond, List, [], ◌∷◌, map, ◌≡◌, ℕ, suc, ◌-◌, ◌/◌, Result, MatchResult, eqb, ltb, length, get_or}
 use Rattle.lists.specs.Lists.{range, on, sum}
 use Rattle.rows.specs.Rows.{marked, locations_max}
 use Rattle.picture.specs.declared.Link.{Link}
 use Rattle.picture.specs.declared.refusals.Refusal.{Refusal}
-use Rattle.picture.specs.Refusals.{fault_of}
+use Rattle.picture.specs.Refusals.{refusal_number}
 use Rattle.picture.specs.Layout.{blocks_max, endpoints_max}
 use Rattle.picture.specs.Picture.{Picture}
 use Rattle.network.specs.Words.{is_held, joins}
@@ -15,10 +15,9 @@ use Rattle.price.specs.Faults.{flat_fault, records_fault}
 pub record ReachedRow (p : Picture) (row : List ℕ) : Type 0 where
   pub marks : (v : ℕ) → marked row v ≡ (ltb 0 v && (is_held p v && joins p.links 0 v))
 
--- the number of 19, or that row
-pub record SlotsReached (p : Picture) (r : Result (List ℕ) Refusal) : Type 0 where
-  pub fault : fault_of r ≡ flat_fault p
-  pub row : (row : List ℕ) → r ≡ Ok row → ReachedRow p row
+-- that row, or the refusal of a link that starts elsewhere
+abbrev pub SlotsReached : Picture → Result (List ℕ) Refusal → Type 0
+SlotsReached p r = MatchResult r (λ row. (0 ≡ flat_fault p) × ReachedRow p row) (λ e. refusal_number e ≡ flat_fault p)
 
 -- what is told of an endpoint: the number of a block, that there is no feeder, or that no block is its one feeder
 abbrev pub no_feeder : ℕ
@@ -54,7 +53,7 @@ pub record EndpointsTell (p : Picture) (feeders : List ℕ) : Type 0 where
 unfoldable pub fed : List ℕ → List Record → ℕ → ℕ
 fed feeders rs b = sum (map (λ r. on (eqb (get_or feeders r.endpoint no_feeder) b) r.weight) rs)
 
--- the number of 21, or the sums
-pub record Adding (feeders : List ℕ) (d : ℕ) (rs : List Record) (r : Result (List ℕ) Refusal) : Type 0 where
-  pub fault : fault_of r ≡ records_fault d rs
-  pub sums : (counters : List ℕ) → r ≡ Ok counters → counters ≡ map (fed feeders rs) (range 0 blocks_max)
+-- these sums for each block, or the refusal of a record's endpoint
+abbrev pub Adding : List ℕ → ℕ → List Record → Result (List ℕ) Refusal → Type 0
+Adding feeders d rs r =
+    MatchResult r (λ counters. (0 ≡ records_fault d rs) × (counters ≡ map (fed feeders rs) (range 0 blocks_max))) (λ e. refusal_number e ≡ records_fault d rs)

@@ -1,9 +1,9 @@
 // Pricing the blocks of a flat network, where every link starts at the origin: what each block would lose, by one pass over records of traffic.
 #![tactic(auto)]
 
-ghost use Rattle.std.specs.Prelude.{◌≡◌, ◌*◌, ◌≤◌, ◌<◌, length, get_or};
+ghost use Rattle.std.specs.Prelude.{◌≡◌, ◌+◌, ◌*◌, ◌≤◌, ◌<◌, length, get_or};
 ghost use Rattle.lists.specs.Lists.{outcome};
-ghost use Rattle.picture.specs.Layout.{endpoints_max, weight_max};
+ghost use Rattle.picture.specs.Layout.{endpoints_max};
 ghost use Rattle.picture.specs.Picture.{picture_of};
 ghost use Rattle.network.specs.Words.{endpoint_count};
 ghost use Rattle.price.specs.Traffic.{no_record, record_bytes, records_max, records_of};
@@ -35,13 +35,12 @@ pub struct Record {
 // Record i, counted from 0.
 fn nth_record(records: &[u8], i: usize) -> Record
     requires { i * record_bytes + record_bytes ≤ length records.now }
-    ensures reads { result ≡ get_or (records_of records.now) i no_record }
-    ensures small { result.weight ≤ weight_max }
+    ensures { result ≡ get_or (records_of records.now) i no_record }
 {
     let at = i * RECORD_BYTES;
     Record {
         endpoint: usize::from(records[at]),
-        weight: u32::from(records[at + 1]) * 256 + u32::from(records[at + 2]),
+        weight: bits::bytes(records, at + 1, 2) as u32,
     }
 }
 
@@ -72,26 +71,28 @@ fn location_feeders(p: &Picture, reached: &Row) -> [u8; LOCATIONS]
 {
     let h = p.header();
     let mut feeders = [NO_FEEDER; LOCATIONS];
-    feeders[0] = NOT_ONE;
-    for v in 1..=h.slots {
+    // Down to the first: so the loop has one count to keep; so below.
+    for v in (1..=h.slots).rev() {
         if rows::has(reached, v) {
             feeders[v] = ((v - 1) / h.block_size) as u8;
         }
     }
+    feeders[0] = NOT_ONE;
     feeders
 }
 
 // What two service links to one endpoint tell together.
+#[tactic(auto, unfolding(crate::specs::Inner::joint))]
 fn joint(one: u8, other: u8) -> u8
     ensures { result ≡ joint one other }
 {
     if one == NO_FEEDER || one == other {
-        other
-    } else if other == NO_FEEDER {
-        one
-    } else {
-        NOT_ONE
+        return other;
     }
+    if other == NO_FEEDER {
+        return one;
+    }
+    NOT_ONE
 }
 
 // The one feeder of each endpoint: what all service links to it tell together.

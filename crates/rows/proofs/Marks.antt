@@ -18,7 +18,7 @@ use Rattle.std.proofs.lemmas.Bool.Decides.{nat_tests}
 use Rattle.std.proofs.lemmas.Nat.Bits.{bit_at-zero}
 use Rattle.rows.specs.Rows.{marked, linked_in, words_for, Narrow, With, Linked, Differ, Minus, Meet, Made, slots_max, row_words, in_word}
 use Rattle.lists.proofs.Tests.{and_T, eq_T, is_false, not_not_T}
-use Rattle.lists.proofs.Picks.{zeros_at}
+use Rattle.lists.proofs.Picks.{copies_at}
 use Rattle.rows.proofs.Digits.{digit_and, digit_or, digit_xor, digit_not, digit_shifted}
 use Rattle.rows.proofs.InWords.{in_word_lem, word_in, both_words, common_words, none_in_zero, word_begun, word_here}
 use Rattle.rows.proofs.Parts.{done_split, Part, Picked}
@@ -173,7 +173,7 @@ module _ {made : ℕ → ℕ → ℕ → Type 0} {one other row : List ℕ} wher
 
 -- a row of zeros marks nothing
 pub clear : (n v : ℕ) → ¬ T (marked (replicate n 0) v)
-clear n v = word_none (replicate n 0) v (zeros_at n (v / 64))
+clear n v = word_none (replicate n 0) v (copies_at 0 n (v / 64))
 
 -- a row that marks less than another does so in the same words, and so does one that marks nothing
 pub less_narrow : {words : ℕ} {row less left : List ℕ} → Narrow words row → Minus row less left → Narrow words left
