@@ -76,7 +76,7 @@ module _ (p : Picture) where
 -- ---- every candidate of an accepted picture is one of its blocks
 
 -- a block that starts before the last slot is one of them, where the slots are whole blocks
-block_below : (n size b : ℕ) → n % size ≡ 0 → b * size < n → b < n / size
+pub block_below : (n size b : ℕ) → n % size ≡ 0 → b * size < n → b < n / size
 block_below n size b m l = lt_of_mul-lt-mul_right size (omega (arith, div-add-mod' n size))
 
 pub candidate_below : (bs : List ℕ) → picture_fault bs ≡ 0 → (b : ℕ) → Candidate (picture_of bs) b → b < block_count (picture_of bs)

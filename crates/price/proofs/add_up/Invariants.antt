@@ -1,20 +1,16 @@
 -- `add_up` adds the weight of each record to a counter, or to none. Assumes nothing.
-use mathlib.Core.Path.{◌≡◌}
 use mathlib.Core.List.{List}
-use Prim.Native.Nat.{ℕ, ◌*◌, ◌/◌, ◌≤◌, ◌<◌}
-use lib.ListN.{length, get_or, take}
-use Rattle.picture.specs.Layout.{blocks_max, weight_max}
+use Prim.Native.Nat.{ℕ, ◌/◌}
+use lib.ListN.{length}
 use Rattle.picture.proofs.Finding.{Scanning}
 use Rattle.price.specs.Traffic.{no_record, record_bytes, records_of}
 use Rattle.price.specs.Faults.{record_fault}
-use Rattle.price.specs.Inner.{fed}
+use Rattle.price.proofs.Adding.{Summing}
 use Rattle.price.proofs.add_up.Given as goal
 
 pub record Loop (records feeders counters : List ℕ) (d i : ℕ) : Type 0 where
   pub scanned : Scanning (record_fault d) no_record (records_of records) (length records / record_bytes) i
-  pub many : length counters ≡ blocks_max
-  pub sums : (b : ℕ) → b < blocks_max → get_or counters b 0 ≡ fed feeders (take i (records_of records)) b
-  pub small : (b : ℕ) → b < blocks_max → get_or counters b 0 ≤ i * weight_max
+  pub summing : Summing feeders (records_of records) counters i
 
 abbrev pub invariant-loop-i : goal.invariant-loop-i
 invariant-loop-i l = Loop l.records l.feeders l.counters l.d l.i
