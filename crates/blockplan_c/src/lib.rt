@@ -14,9 +14,9 @@ ghost use Rattle.write.specs.Columns.{handed};
 ghost use Rattle.write.specs.Answers.{writing_numbers};
 ghost use Rattle.generator.specs.Generated.{asked_header};
 ghost use Rattle.generator.specs.Answers.{generating, generated_bytes};
-ghost use Rattle.blockplan_c.specs.Answers.{to_c, WritesForC};
+ghost use Rattle.blockplan_c.specs.Answers.{to_c, WritesForC, pricing_into, priced_into};
 
-use picture::Refusal;
+use picture::{BLOCKS_MAX, Refusal};
 
 // A refusal is minus its number.
 // Kept: one i32 for a length and for a refusal, the form that C gets.
@@ -159,4 +159,26 @@ pub extern "C" fn blockplan_generate(
         service_links,
         picture,
     ))
+}
+
+// Prices blocks into a buffer, which is judged last.
+fn price_into(picture: &[u8], records: &[u8], counters: &mut [u32]) -> Result<(), Refusal>
+    ensures answer { result ≡ pricing_into picture.now records.now counters.old }
+    ensures bytes { counters.new ≡ priced_into picture.now records.now counters.old }
+{
+    let prices = price::price(picture, records)?;
+    if counters.len() < BLOCKS_MAX {
+        return Err(Refusal::Buffer);
+    }
+    counters[..BLOCKS_MAX].copy_from_slice(&prices);
+    Ok(())
+}
+
+// Prices the blocks of a flat network from traffic records, into the first sixty counters: 0, or minus the number of the first fault.
+#[unsafe(no_mangle)]
+pub extern "C" fn blockplan_price(picture: &[u8], records: &[u8], counters: &mut [u32]) -> i32
+    ensures answer { result ≡ to_c (answer_numbers (λ _. []) (pricing_into picture.now records.now counters.old)) }
+    ensures bytes { counters.new ≡ priced_into picture.now records.now counters.old }
+{
+    done_number(price_into(picture, records, counters))
 }

@@ -35,7 +35,7 @@ module _ {p : Picture} (n : Named p) where
   unfolding sum_where
   served_weight_lem held = total (Served p held) (weight_of p) (served p (marks p held)) (marked_served p held) (λ c s. served_marked n s) 1 (endpoint_count p)
 
-  cut_sum : (b : ℕ) (w : ℕ → ℕ) → Sum p w (Cuts p b) (sum_where p w (cut p (marks p (is_held p)) (marks p (held_without p b))))
+  pub cut_sum : (b : ℕ) (w : ℕ → ℕ) → Sum p w (Cuts p b) (sum_where p w (cut p (marks p (is_held p)) (marks p (held_without p b))))
   unfolding sum_where
   cut_sum b w = total (Cuts p b) w (cut p (marks p (is_held p)) (marks p (held_without p b))) (cut_cuts n b) (λ c k. cuts_cut n k) 1 (endpoint_count p)
 

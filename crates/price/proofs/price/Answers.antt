@@ -1,46 +1,55 @@
-use Rattle.std.proofs.Common.{rules, ◌≡◌, ◌+◌, ◌*◌, ◌≤◌, ◌<◌, length, get_or, ℕ, ◌-◌, ◌/◌, ◌%◌, Bool, true, false, nat_eq, nat_lt, List, [], ◌∷◌, ◌++◌, slice_set, bit_and, bit_or, Fits, w8, w32, w64, Bor, MutBor}
-use Rattle.lists.specs.Lists.{outcome}
-use Rattle.picture.specs.Layout.{endpoints_max}
-use Rattle.picture.specs.Picture.{picture_of}
-use Rattle.network.specs.Words.{endpoint_count}
-use Rattle.price.specs.Traffic.{no_record, record_bytes, records_max, records_of}
-use Rattle.price.specs.Faults.{length_fault, price_fault}
-use Rattle.price.specs.Answers.{counters, pricing, pricing_numbers}
-use Rattle.price.specs.Inner.{SlotsReached, ReachedRow, joint, LocationsTell, EndpointsTell, Adding}
+-- `price` prices the blocks of any bytes from records of any bytes. Assumes nothing.
+use mathlib.Core.Path.{◌≡◌, refl, sym, ◌∙◌}
+use mathlib.Core.Logic.{⊎_elim}
+use native.Mathlib.Omega.{arith}
+use Rattle.std.proofs.lemmas.Result.{err_from_is_err_and}
+use Rattle.picture.proofs.Facts.{read_limited}
+use Rattle.picture.proofs.Refusing.{answered_err, numbers_err}
+use Rattle.network.proofs.Blocks.{read_endpoints}
+use Rattle.price.specs.Rules.{Whole}
+use Rattle.price.specs.Answers.{counters, pricing}
+use Rattle.price.proofs.Answering.{price_faulty, price_strays, price_odd, price_added}
 use Rattle.price.proofs.price.Goals as goal
+use Rattle.price.proofs.price.Goals.{Joined-then-records-ne0, then-records-ne0-via-then-records-ne0, then-records-ne0-via-else-records-ne0+then-records}
 
--- src/lib.rt:137:13
-pub returns-in_err-p-clause-answer : goal.returns-in_err-p-clause-answer
-returns-in_err-p-clause-answer c = ?
+pub returns-in_err-p : goal.returns-in_err-p
+unfolding pricing
+returns-in_err-p c =
+    let p = err_from_is_err_and c.from_residual.result c.from_residual.ensures.1 in
+    let k = price_faulty _ c.args.records.now _ c.in_err-p.ensures in
+    rw (p.1, p.2) (record { answer = answered_err _ _ k; numbers = numbers_err (λ cs. cs) _ _ k })
 
--- src/lib.rt:137:13
-pub returns-in_err-p-clause-numbers : goal.returns-in_err-p-clause-numbers
-returns-in_err-p-clause-numbers c = ?
+pub returns-in_err-reached : goal.returns-in_err-reached
+unfolding pricing
+returns-in_err-reached c =
+    let p = err_from_is_err_and c.from_residual-in_err-reached.result c.from_residual-in_err-reached.ensures.1 in
+    let k = price_strays _ c.args.records.now (c.in_ok-p.ensures.1) _ (rw c.in_ok-p.ensures.0 at c.in_err-reached.ensures) in
+    rw (p.1, p.2) (record { answer = answered_err _ _ k; numbers = numbers_err (λ cs. cs) _ _ k })
 
--- src/lib.rt:138:19
-pub returns-in_err-reached-clause-answer : goal.returns-in_err-reached-clause-answer
-returns-in_err-reached-clause-answer c = ?
+-- the length is no multiple of three, or too large
+odd : (c : Joined-then-records-ne0) → ¬ Whole c.args.records.now
+odd c w =
+    elim c.then-records-ne0.branch [
+      | then-records-ne0-via-then-records-ne0 v ↦ absurd (v.if-records-ne0.true w.multiple)
+      | then-records-ne0-via-else-records-ne0+then-records v ↦ absurd (omega (arith, v.if-records.true, w.most))
+    ]
 
--- src/lib.rt:138:19
-pub returns-in_err-reached-clause-numbers : goal.returns-in_err-reached-clause-numbers
-returns-in_err-reached-clause-numbers c = ?
+pub returns-then-records-ne0 : goal.returns-then-records-ne0
+unfolding pricing
+returns-then-records-ne0 c =
+    let f = rw c.in_ok-p.ensures.0 at c.in_ok-reached.ensures.0 in
+    let k = price_odd _ c.args.records.now (c.in_ok-p.ensures.1) f (odd c) in
+    record { answer = answered_err _ _ k; numbers = numbers_err (λ cs. cs) _ _ k }
 
--- src/lib.rt:140:9
-pub returns-then-records-ne0-clause-answer : goal.returns-then-records-ne0-clause-answer
-returns-then-records-ne0-clause-answer c = ?
-
--- src/lib.rt:140:9
-pub returns-then-records-ne0-clause-numbers : goal.returns-then-records-ne0-clause-numbers
-returns-then-records-ne0-clause-numbers c = ?
-
--- src/lib.rt:144:5
 pub add_up-requires : goal.add_up-requires
-add_up-requires c = ?
+add_up-requires c = (c.if-records.false, (read_limited _ _ c.header.ensures).counts.endpoints_most)
 
--- src/lib.rt:133:1
-pub returns-clause-answer : goal.returns-clause-answer
-returns-clause-answer c = ?
-
--- src/lib.rt:133:1
-pub returns-clause-numbers : goal.returns-clause-numbers
-returns-clause-numbers c = ?
+pub returns : goal.returns
+returns c =
+    let same = c.in_ok-p.ensures.0 in
+    let z = c.in_ok-p.ensures.1 in
+    let f = rw same at c.in_ok-reached.ensures.0 in
+    let r = rw same at c.header.ensures in
+    let a = price_added _ c.args.records.now z f (record { multiple = c.if-records-ne0.false; most = c.if-records.false }) (rw same at c.endpoint_feeders-feeders.ensures) _
+        (rw (read_endpoints _ _ r) at c.add_up.ensures) in
+    record { answer = a.0; numbers = a.1 }
