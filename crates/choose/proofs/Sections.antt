@@ -22,12 +22,12 @@ use Rattle.network.specs.Rows.{block_range}
 use Rattle.network.proofs.Named.{accepted_named}
 use Rattle.network.proofs.Weights.{mark_le, weighed_block}
 use Rattle.weigh.specs.declared.Lost.{Lost}
-use Rattle.network.proofs.Blocks.{read_block_size, read_slots, read_endpoints}
+use Rattle.network.proofs.Blocks.{read_block_size, read_slots, read_endpoints, blocks_small}
 use Rattle.weigh.proofs.Serving.{left_walked, walk_meets, loss_met, cuts_met, mark_met}
 use Rattle.evidence.specs.Layout.{node_bytes, evidence_max}
 use Rattle.evidence.specs.Canonical.{forest_of, section_fields}
 use Rattle.evidence.proofs.Places.{section_bytes_lem}
-use Rattle.evidence.proofs.Fields.{slots_fit, blocks_small, loss_small}
+use Rattle.evidence.proofs.Fields.{slots_fit, loss_small}
 use Rattle.choose.specs.declared.Weighing.{Weighing}
 use Rattle.choose.specs.Writing.{nodes_in, array_section, ForestFits, SectionFits}
 use Rattle.choose.specs.Sections.{WeighRows, LostNow, Room, SectionDone}

@@ -32,7 +32,7 @@ use Rattle.network.specs.Tests.{weighed, served_weight, is_candidate, candidates
 use Rattle.network.proofs.Named.{slots_counted}
 use Rattle.network.proofs.Weights.{mark_le, weighed_block, weights_small}
 use Rattle.network.proofs.Candidates.{candidate_below}
-use Rattle.network.proofs.Blocks.{read_blocks}
+use Rattle.network.proofs.Blocks.{read_blocks, blocks_small}
 use Rattle.evidence.specs.Layout.{head_widths, node_widths, section_head_widths, forest_bits, section_bits, section_at, evidence_bytes}
 use Rattle.evidence.specs.Canonical.{no_cost, weighings, least, verdict_of, chosen_block, chosen_loss, head_fields, node_fields, forest_fields, forest_of, section_fields, evidence_fields, evidence_of}
 use Rattle.evidence.specs.Calls.{length_for}
@@ -132,15 +132,12 @@ module _ (bs : List ℕ) (z : picture_fault bs ≡ 0) where
   unfolding header_of header_in
   slots_fit = omega (arith, slots_counted bs, (accepted_kept bs z).sizes.slots_most, (widths known).slots_fit)
 
-  pub blocks_small : block_count (picture_of bs) ≤ blocks_max
-  blocks_small = omega (arith, read_blocks bs (header_of bs) read, (accepted_kept bs z).sizes.blocks_most)
-
   pub candidates_within : length (candidates (picture_of bs)) ≤ block_count (picture_of bs)
   unfolding candidates
   candidates_within = omega (arith, length_filter_le (is_candidate p) (range 0 (block_count p)), length_range 0 (block_count p))
 
   pub candidates_few : length (candidates (picture_of bs)) ≤ blocks_max
-  candidates_few = omega (arith, candidates_within, blocks_small)
+  candidates_few = omega (arith, candidates_within, blocks_small bs z)
 
   -- blocks of one size take all slots
   pub blocks_whole : block_count (picture_of bs) * (header_of bs).block_size ≡ slot_count (picture_of bs)
@@ -167,7 +164,7 @@ module _ (bs : List ℕ) (z : picture_fault bs ≡ 0) where
   weighing_fits o = go (weighing_candidate p o)
     where
       go : {w : Cost} → Weighing p w → (w.block < blocks_max) × (w.loss < 2 ^ 24) × (w.mark ≤ 1)
-      go (of b c) = (omega (arith, weighed_block p b, candidate_below bs z b c, blocks_small), loss_small b, mark_le p b)
+      go (of b c) = (omega (arith, weighed_block p b, candidate_below bs z b c, blocks_small bs z), loss_small b, mark_le p b)
 
   -- the choice is one of the weighings, or none
   pub choice_fits : let c = least (weighings (picture_of bs)) in (verdict_of c ≤ 1) × (chosen_block c < blocks_max) × (chosen_loss c < 2 ^ 24)

@@ -22,7 +22,8 @@ use Rattle.evidence.specs.Layout.{node_widths, node_bytes, section_bytes, sectio
 use Rattle.evidence.specs.Canonical.{evidence_of}
 use Rattle.evidence.specs.Calls.{length_for, choose_fault, chosen_bytes}
 use Rattle.evidence.proofs.Places.{head_whole, forest_whole, section_bytes_lem, sections_whole, forest_at_lem}
-use Rattle.evidence.proofs.Fields.{slots_small, blocks_small, candidates_within, candidates_few, blocks_whole, length_evidence}
+use Rattle.network.proofs.Blocks.{blocks_small}
+use Rattle.evidence.proofs.Fields.{slots_small, candidates_within, candidates_few, blocks_whole, length_evidence}
 
 -- the byte behind the head and the first forest
 abbrev pub sections_start : Edition → ℕ → ℕ

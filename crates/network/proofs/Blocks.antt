@@ -6,8 +6,11 @@ use native.Mathlib.Omega.{arith}
 use native.Mathlib.Nat.{suc-mul, mul-le-mul_right, div-mul-le_self}
 use Rattle.rows.specs.Rows.{slots_max}
 use Rattle.picture.specs.declared.Header.{Header}
-use Rattle.picture.specs.Picture.{Picture, picture_of, picture_with}
+use Rattle.picture.specs.Layout.{blocks_max}
+use Rattle.picture.specs.Picture.{Picture, header_of, picture_of, picture_with}
+use Rattle.picture.specs.Faults.{picture_fault}
 use Rattle.picture.specs.Inner.{Read}
+use Rattle.picture.proofs.Accepted.{accepted_kept}
 use Rattle.picture.proofs.Facts.{read_picture, read_slots_most, read_slots_length, read_endpoints_length}
 use Rattle.network.specs.Words.{slot_count, endpoint_count, block_count}
 
@@ -38,3 +41,7 @@ module _ (bs : List ℕ) (h : Header) (r : Read bs h) where
   read_block b l =
       let f : b * h.block_size + h.block_size ≤ h.slots = block_fits h.slots h.block_size b (rw read_blocks l) in
       omega (arith, read_slots_most bs h r)
+
+-- an accepted picture has few blocks
+pub blocks_small : (bs : List ℕ) → picture_fault bs ≡ 0 → block_count (picture_of bs) ≤ blocks_max
+blocks_small bs z = omega (arith, read_blocks bs (header_of bs) (record { accepted = z; header = refl }), (accepted_kept bs z).sizes.blocks_most)

@@ -24,7 +24,7 @@ use Rattle.picture.proofs.Accepted.{accepted_kept}
 use Rattle.network.specs.Words.{slot_count, endpoint_count, block_count, is_held, held_without, Cuts, Sum, Named}
 use Rattle.network.specs.Tests.{marks, cut, sum_where}
 use Rattle.network.proofs.Named.{accepted_named}
-use Rattle.network.proofs.Blocks.{read_block_size, read_slots, read_blocks}
+use Rattle.network.proofs.Blocks.{read_block_size, read_slots, blocks_small}
 use Rattle.network.proofs.Service.{cut_cuts, cuts_cut}
 use Rattle.network.proofs.Weights.{cut_sum}
 use Rattle.price.specs.declared.Record.{Record}
@@ -70,7 +70,7 @@ module _ (bs : List ℕ) (z : picture_fault bs ≡ 0) (f : Flat (picture_of bs))
       ∙ (accepted_kept bs z).sizes.multiple
 
   blocks_few : block_count p ≤ blocks_max
-  blocks_few = omega (arith, read_blocks bs (header_of bs) read, (accepted_kept bs z).sizes.blocks_most)
+  blocks_few = blocks_small bs z
 
   -- ---- what is told, and what a block cuts as a test, is the one feeder
 
