@@ -4,7 +4,7 @@
  * A picture is the state of one relay's network as bytes. Evidence says which block was chosen and why. The library is proved: on every input
  * each call ends, reads and writes inside its buffers and lists only, and gives the answer that docs/FORMAT.md fixes. That page has formats, words
  * and numbers in full, with an example byte by byte; it follows the scope document, "01" below. Link with libblockplan_c.a (x86-64, System V
- * calls), which `rt lib` in crates/blockplan_c makes; besides the seven calls it names only memcpy and memset.
+ * calls), which `rt lib` in crates/blockplan_c makes; besides the eight calls it names only memcpy and memset.
  *
  * WORDS. Location 0 is the origin (01: the office); locations 1 to n are slots, in blocks of so many slots each, counted from 0. Links lead from
  * location to location, service links (01: serving links) from a location to an endpoint (01: a cab). A slot is held, recoverable or freed; near
@@ -16,9 +16,9 @@
  *
  * WHAT A CALLER OWES, and no call can test:
  * - Each pointer points to as many bytes as the length says, or to as many rows as the count says, also where that is 0: a null pointer is never
- *   allowed. For bytes and bools any alignment will do; lists of uint16_t are aligned as C aligns them.
+ *   allowed. For bytes and bools any alignment will do; lists of uint16_t and of uint32_t are aligned as C aligns them.
  * - Each bool is 0 or 1. What a call does with another value in its byte is undefined.
- * - The two buffers of a call do not overlap, and no list overlaps the buffer that the picture is written to.
+ * - The buffers of a call do not overlap, and no list overlaps the buffer that the picture is written to.
  * - One call at a time on a buffer: while a call runs, nothing else (thread, interrupt, DMA) touches a buffer that it writes, or writes a buffer
  *   or list that it reads.
  * Nothing else is asked of what bytes and lists hold, of how long they are, or of a block's number or size. Hand over all bytes of a picture that
@@ -59,6 +59,9 @@ extern "C" {
 #define BLOCKPLAN_ENDPOINTS_MAX 200
 #define BLOCKPLAN_LINKS_MAX 2000 /* links, and as many service links */
 #define BLOCKPLAN_PICTURE_MAX 11553
+
+/* Traffic records for price, three bytes each: endpoint 8, weight 16, high byte first. */
+#define BLOCKPLAN_RECORDS_MAX 60000
 
 /*
  * EVIDENCE, all of it whole bytes but for the first:
@@ -107,7 +110,7 @@ enum blockplan_refusal {
     BLOCKPLAN_REFUSED_FILL = 7,              /* fill bits not zero, or bytes left */
     BLOCKPLAN_REFUSED_NO_BLOCK = 8,          /* the acts: no block of this number */
     BLOCKPLAN_REFUSED_BUFFER = 9,            /* choose, write, generate: the buffer is under the length of the evidence, or of the
-                                                picture */
+                                                picture; price: there are fewer counters than BLOCKPLAN_BLOCKS_MAX */
     BLOCKPLAN_REFUSED_PROTECTED = 10,        /* evict, free: a protected endpoint would be cut */
     BLOCKPLAN_REFUSED_NO_CHANGE = 11,        /* the acts: no slot would change */
     BLOCKPLAN_REFUSED_NEAR = 12,             /* reload: it adds a held near slot, and more than the near limit would be held */
@@ -117,7 +120,11 @@ enum blockplan_refusal {
     BLOCKPLAN_REFUSED_WEIGHT = 15,           /* check: served weight, a loss or a mark is wrong */
     BLOCKPLAN_REFUSED_VERDICT = 16,          /* check: verdict, block or loss is not what sections and forests imply */
     BLOCKPLAN_REFUSED_SERVICE_LOCATION = 17, /* the location of a service link is above n */
-    BLOCKPLAN_REFUSED_SERVICE_ENDPOINT = 18  /* the endpoint of a service link is 0 or above D */
+    BLOCKPLAN_REFUSED_SERVICE_ENDPOINT = 18, /* the endpoint of a service link is 0 or above D */
+    BLOCKPLAN_REFUSED_LINK_START = 19,       /* price: a link starts elsewhere than at the origin */
+    BLOCKPLAN_REFUSED_RECORDS = 20,          /* price: the records' length is no multiple of three, or that of more than
+                                                BLOCKPLAN_RECORDS_MAX records */
+    BLOCKPLAN_REFUSED_RECORD_ENDPOINT = 21   /* price: the endpoint of a record is 0 or above D */
 };
 
 /*
@@ -192,6 +199,25 @@ int32_t blockplan_write(uint32_t edition, uint32_t block_size, uint16_t near_lim
  */
 int32_t blockplan_generate(uint64_t seed, uint32_t block_size, uint32_t blocks, uint32_t endpoints, uint32_t links, uint32_t service_links,
                            uint8_t *picture, size_t picture_length);
+
+/*
+ * Prices every block of a flat network, where each link starts at the origin, from live traffic: one pass over the records in the place of a
+ * walk for each block. An endpoint weighs the sum of its records here, and not what the picture says. Writes BLOCKPLAN_BLOCKS_MAX counters: that
+ * of block b is what b would lose, whether or not it is a candidate; after the last block they are 0. Counters beyond stay as they were, and so
+ * do all after a refusal. Returns 0.
+ *
+ * A record adds its weight to the counter of the one block that feeds its endpoint, by slots that are held and have a link from the origin; it adds
+ * nothing where several blocks feed it or none does, or the origin has a service link to it.
+ *
+ * Refuses with the picture's numbers, and then, in this order, with
+ *
+ *   19  where a link starts elsewhere than at the origin, whatever the state of its slots
+ *   20  where records_length is no multiple of three, or there are more than BLOCKPLAN_RECORDS_MAX records
+ *   21  where the endpoint of a record is 0 or above D
+ *   9   where counter_count is under BLOCKPLAN_BLOCKS_MAX
+ */
+int32_t blockplan_price(const uint8_t *picture, size_t picture_length, const uint8_t *records, size_t records_length, uint32_t *counters,
+                        size_t counter_count);
 
 #ifdef __cplusplus
 }
