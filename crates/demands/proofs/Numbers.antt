@@ -28,7 +28,7 @@ use Rattle.acts.specs.Answers.{acting, acting_numbers}
 
 -- a number is 0 or a refusal's
 last : ℕ
-last = 18
+last = 21
 
 none_known : first [] ≤ last
 unfolding first last

@@ -1,11 +1,12 @@
 -- One table of worked examples: each row is a question about some bytes and the numbers that document 01 says. What a call answers is told by
 -- 01's number and values, and a buffer by all of its bytes. Assumes nothing.
-use Rattle.std.specs.Prelude.{true, false, List, [], ◌∷◌, ◌++◌, ℕ, ◌*◌, ◌/◌, ◌%◌, set, take, drop, replicate}
+use Rattle.std.specs.Prelude.{true, false, List, [], ◌∷◌, ◌++◌, ℕ, ◌*◌, ◌-◌, ◌/◌, ◌%◌, set, length, take, drop, replicate}
 use Rattle.picture.specs.declared.Header.{Header}
 use Rattle.picture.specs.Picture.{picture_of}
 use Rattle.picture.specs.Answers.{reading, reading_numbers}
 use Rattle.network.specs.Tests.{served_weight}
 use Rattle.weigh.specs.Weighing.{weighing, weighing_numbers}
+use Rattle.price.specs.Answers.{pricing, pricing_numbers}
 use Rattle.evidence.specs.Canonical.{evidence_of}
 use Rattle.evidence.specs.Calls.{chosen_bytes, shown}
 use Rattle.choose.specs.Answers.{choosing, choosing_numbers}
@@ -20,7 +21,7 @@ use Rattle.draws.specs.Draws.{draw}
 use Rattle.generator.specs.Generated.{asked_header}
 use Rattle.generator.specs.Answers.{generating, generated_bytes}
 use Rattle.listing.specs.Listing.{listing}
-use Rattle.examples.specs.Cases.{evidence_a, lists_with, lists_a, case_a, case_b, case_c, case_d, case_e, case_f, case_g, case_h, case_i, case_j, case_k, case_m, case_fewer, case_zero, case_equal, case_wide, case_second, evidence_second, case_far, evidence_far, lines_a, lines_far}
+use Rattle.examples.specs.Cases.{evidence_a, lists_with, lists_a, case_a, case_b, case_c, case_d, case_e, case_f, case_g, case_h, case_i, case_j, case_k, case_m, case_fewer, case_zero, case_equal, case_wide, case_second, evidence_second, case_far, evidence_far, case_flat, flat_second, flat_records, lines_a, lines_far}
 
 -- what is asked
 pub data Question : Type 0 where
@@ -46,6 +47,8 @@ pub data Question : Type 0 where
   drawn : ℕ → ℕ → Question
   -- what generating answers for a seed, the header that is asked for and a buffer, and the buffer at exit
   generate : ℕ → Header → List ℕ → Question
+  -- what pricing a picture's blocks answers for records
+  price : List ℕ → List ℕ → Question
 
 -- what the calls of a list answer, one after another
 unfoldable pub call_numbers : List ℕ → List Call → List ℕ
@@ -65,6 +68,7 @@ answer (calls bs cs) = call_numbers bs cs ++ (served_weight (picture_of (bytes_a
 answer (write l buf) = writing_numbers (writing l buf) ++ written_bytes l buf
 answer (drawn seed k) = draw seed k ∷ []
 answer (generate seed h buf) = writing_numbers (generating h buf) ++ generated_bytes seed h buf
+answer (price bs records) = pricing_numbers (pricing bs records)
 
 -- a question, and what document 01 says
 pub record Row : Type 0 where
@@ -116,6 +120,10 @@ freed_second = set (set case_second 8 0x26) 9 0xD0
 -- one held near slot under this near limit, in this edition
 unfoldable pub one_slot : ℕ → ℕ → Lists
 one_slot edition limit = handed edition 1 limit (0 ∷ []) (true ∷ []) [] [] [] []
+
+-- sixty counters, of which the first are these
+unfoldable pub sixty : List ℕ → List ℕ
+sixty counters = counters ++ replicate (60 - length counters) 0
 
 -- lists of which nothing is right: β 0, κ 65535, a state without its mark, a weight without its mark, and links to what is not there
 unfoldable pub all_wrong : ℕ → Lists
@@ -481,4 +489,29 @@ table =
     -- the largest numbers
     ∷ record { question = generate 18446744073709551615 (asked_header 4294967295 4294967295 4294967295 4294967295 4294967295) (replicate 9 0xEE); says = 3 ∷ replicate 9 0xEE }
     ∷ record { question = generate 18446744073709551615 (asked_header 15 16 4294967295 4294967295 4294967295) (replicate 9 0xEE); says = 4 ∷ replicate 9 0xEE }
+    -- price (02, C-16): a record adds its weight where one block feeds its endpoint and the origin does not. Block 1 is no candidate
+    ∷ record { question = price case_flat flat_records; says = 0 ∷ sixty (358 ∷ 1000 ∷ 20 ∷ []) }
+    ∷ record { question = price flat_second flat_records; says = 0 ∷ sixty (358 ∷ 1000 ∷ 20 ∷ []) }
+    ∷ record { question = price case_flat []; says = 0 ∷ sixty [] }
+    -- slot 4 held: it feeds endpoint 5. Slot 2 freed: block 1 alone feeds endpoint 2, and slot 1 still feeds endpoint 1. All but slot 6 freed
+    ∷ record { question = price (set case_flat 8 0x00) flat_records; says = 0 ∷ sixty (358 ∷ 4000 ∷ 20 ∷ []) }
+    ∷ record { question = price (set case_flat 7 0x34) flat_records; says = 0 ∷ sixty (358 ∷ 1200 ∷ 20 ∷ []) }
+    ∷ record { question = price (set (set case_flat 7 0xB6) 8 0x48) flat_records; says = 0 ∷ sixty (0 ∷ 0 ∷ 20 ∷ []) }
+    -- 19: case A, whatever the states of its slots (G); and link 4-0 for 0-0, from a slot that is not held. 6 and 7 come before it
+    ∷ record { question = price case_a []; says = 19 ∷ [] }
+    ∷ record { question = price case_g []; says = 19 ∷ [] }
+    ∷ record { question = price (set case_flat 32 4) flat_records; says = 19 ∷ [] }
+    ∷ record { question = price (set (set case_flat 32 4) 33 7) flat_records; says = 6 ∷ [] }
+    ∷ record { question = price (set case_flat 32 4 ++ (0 ∷ [])) flat_records; says = 7 ∷ [] }
+    ∷ record { question = price [] (0 ∷ []); says = 1 ∷ [] }
+    -- 20: one byte and two bytes more, after 19 and before 21
+    ∷ record { question = price case_flat (flat_records ++ (1 ∷ [])); says = 20 ∷ [] }
+    ∷ record { question = price case_flat (flat_records ++ (1 ∷ 0 ∷ [])); says = 20 ∷ [] }
+    ∷ record { question = price (set case_flat 32 4) (0 ∷ []); says = 19 ∷ [] }
+    ∷ record { question = price case_flat (0 ∷ 0 ∷ 0 ∷ 1 ∷ []); says = 20 ∷ [] }
+    -- 21: endpoints 0 and 7, also where the record weighs nothing, and without endpoints any; endpoint 6 is the last
+    ∷ record { question = price case_flat (flat_records ++ (0 ∷ 0 ∷ 0 ∷ [])); says = 21 ∷ [] }
+    ∷ record { question = price case_flat (7 ∷ 0 ∷ 1 ∷ []); says = 21 ∷ [] }
+    ∷ record { question = price case_flat (6 ∷ 0xFF ∷ 0xFF ∷ []); says = 0 ∷ sixty (0 ∷ 0 ∷ 65535 ∷ []) }
+    ∷ record { question = price (slots_only 0x11 1 1) (1 ∷ 0 ∷ 1 ∷ []); says = 21 ∷ [] }
     ∷ []
