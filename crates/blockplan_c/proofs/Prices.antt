@@ -10,7 +10,7 @@ use Rattle.lists.proofs.Answers.{outcome_zero}
 use Rattle.lists.proofs.Faults.{first_one}
 use Rattle.picture.specs.declared.refusals.Refusal.{Refusal}
 use Rattle.picture.specs.declared.refusals.Refusal.TheVariants.{Buffer}
-use Rattle.picture.specs.Refusals.{refusal_number, answer_numbers}
+use Rattle.picture.specs.Refusals.{answer_numbers}
 use Rattle.picture.specs.Layout.{blocks_max}
 use Rattle.picture.specs.Picture.{picture_of}
 use Rattle.picture.proofs.Finding.{tells, passes}

@@ -1,8 +1,8 @@
 -- Whatever a call answers by the number of the first fault tells that number, since each fault has the number of a refusal. Assumes nothing.
 use mathlib.Core.Path.{◌≡◌, refl, sym, ap, ◌∙◌}
 use mathlib.Core.Bool.{Bool, true, false}
-use mathlib.Core.List.{List, [], ◌∷◌, ◌++◌, map}
-use lib.ListN.{length, get_or}
+use mathlib.Core.List.{List, [], ◌∷◌, map}
+use lib.ListN.{get_or}
 use Prim.Native.Nat.{ℕ, zero, suc, ◌-◌, ◌≤◌}
 use native.Mathlib.Omega.{arith}
 use Rattle.lists.specs.Lists.{on, first, outcome, range}

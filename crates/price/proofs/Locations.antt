@@ -1,18 +1,17 @@
 -- What a service link from each location tells, by the row of the reached slots. Assumes nothing.
-use mathlib.Core.Path.{◌≡◌, refl, sym, ap, ◌∙◌}
-use mathlib.Core.Bool.{Bool, true, false, ◌&&◌, cond}
-use mathlib.Core.Logic.{by_cases}
+use mathlib.Core.Path.{◌≡◌, refl, ◌∙◌}
+use mathlib.Core.Bool.{true, false, cond}
 use mathlib.Core.List.{List}
-use Prim.Native.Nat.{ℕ, zero, suc, ◌-◌, ◌/◌, ◌≤◌, ◌<◌}
+use Prim.Native.Nat.{ℕ, zero, suc, ◌-◌, ◌/◌, ◌<◌}
 use native.Mathlib.Omega.{arith}
 use borrow.Author.Tests.{lt-ltb}
-use lib.Dec.{ltb, eqb-suc-zero}
-use lib.ListN.{length, get_or, set, length-set}
+use lib.Dec.{eqb-suc-zero}
+use lib.ListN.{get_or, set, length-set}
 use lib.Seq.{get_or-set_same, get_or-set_other}
 use Rattle.lists.proofs.Filling.{Filled}
 use Rattle.rows.specs.Rows.{marked, locations_max}
 use Rattle.picture.specs.Picture.{Picture}
-use Rattle.network.specs.Words.{slot_count, is_held, joins}
+use Rattle.network.specs.Words.{slot_count}
 use Rattle.network.proofs.Slots.{held_past}
 use Rattle.price.specs.Inner.{ReachedRow, no_feeder, not_one, told, LocationsTell}
 

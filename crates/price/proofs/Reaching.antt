@@ -1,14 +1,13 @@
 -- The row of the reached slots of a flat network, link by link. Assumes nothing.
-use mathlib.Core.Path.{◌≡◌, refl, sym, ap, ap₂, ◌∙◌}
-use mathlib.Core.Bool.{Bool, true, false, ◌&&◌, ◌||◌, and-false, and-true, or-false, or-true, and_assoc}
-use mathlib.Core.Logic.{by_cases, ◌≢◌}
+use mathlib.Core.Path.{◌≡◌, refl, sym, ap₂, ◌∙◌}
+use mathlib.Core.Bool.{true, false, ◌&&◌, ◌||◌, and-false, or-false, or-true, and_assoc}
 use mathlib.Core.List.{List}
 use Prim.Native.Nat.{ℕ, zero, suc, ◌+◌, ◌≤◌, ◌<◌}
 use native.Mathlib.Omega.{arith}
 use native.Mathlib.Decide.{ℕ_discrete}
 use native.Mathlib.Nat.{not-suc-le-zero}
 use borrow.Author.Tests.{eq-eqb, ne_eqb, lt-ltb}
-use lib.Dec.{T, eqb, ltb, eqb-suc-zero}
+use lib.Dec.{eqb, ltb, eqb-suc-zero}
 use lib.ListN.{length, get_or, take, replicate}
 use Rattle.lists.specs.Lists.{any}
 use Rattle.lists.proofs.Tests.{is_false}

@@ -30,12 +30,12 @@ joint_lem a x =
     (ℕ_discrete a no_feeder)
     (λ e. rw (eq-eqb a no_feeder e) (other e))
     (λ n. by_cases
-     (ℕ_discrete a x)
-     (λ e. rw (eq-eqb a x e, ne_eqb a no_feeder n) (same e))
-     (λ m. by_cases
-      (ℕ_discrete x no_feeder)
-      (λ e. rw (ne_eqb a no_feeder n, ne_eqb a x m, eq-eqb x no_feeder e) (one e))
-      (λ o. rw (ne_eqb a no_feeder n, ne_eqb a x m, ne_eqb x no_feeder o) (apart n o m))))
+    (ℕ_discrete a x)
+    (λ e. rw (eq-eqb a x e, ne_eqb a no_feeder n) (same e))
+    (λ m. by_cases
+    (ℕ_discrete x no_feeder)
+    (λ e. rw (ne_eqb a no_feeder n, ne_eqb a x m, eq-eqb x no_feeder e) (one e))
+    (λ o. rw (ne_eqb a no_feeder n, ne_eqb a x m, ne_eqb x no_feeder o) (apart n o m))))
 
 -- ---- all of them
 

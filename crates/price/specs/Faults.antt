@@ -1,5 +1,5 @@
 -- The number of the first fault. Assumes nothing.
-use Rattle.std.specs.Prelude.{Bool, not, ◌&&◌, List, [], ◌∷◌, map, ℕ, ◌*◌, ◌%◌, eqb, leb, length}
+use Rattle.std.specs.Prelude.{not, ◌&&◌, List, [], ◌∷◌, map, ℕ, ◌*◌, ◌%◌, eqb, leb, length}
 use Rattle.lists.specs.Lists.{on, first}
 use Rattle.picture.specs.declared.Link.{Link}
 use Rattle.picture.specs.Picture.{Picture, picture_of}

@@ -1,5 +1,5 @@
 -- What the functions within pricing give. Inner: nothing here is promised. Assumes nothing.
-use Rattle.std.specs.Prelude.{Bool, ◌&&◌, ◌||◌, cond, List, [], ◌∷◌, map, ◌≡◌, ℕ, suc, ◌-◌, ◌/◌, Result, MatchResult, eqb, ltb, length, get_or}
+use Rattle.std.specs.Prelude.{◌&&◌, ◌||◌, cond, List, [], ◌∷◌, map, ◌≡◌, ℕ, suc, ◌-◌, ◌/◌, Result, MatchResult, eqb, ltb, length, get_or}
 use Rattle.lists.specs.Lists.{range, on, sum}
 use Rattle.rows.specs.Rows.{marked, locations_max}
 use Rattle.picture.specs.declared.Link.{Link}

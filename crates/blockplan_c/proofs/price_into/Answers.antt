@@ -1,5 +1,4 @@
 -- `price_into` hands on what pricing answers, and its counters where there is room. Assumes nothing.
-use mathlib.Core.Path.{◌∙◌, sym}
 use native.Mathlib.Omega.{arith}
 use Rattle.std.proofs.lemmas.Result.{err_from_is_err_and}
 use lib.ListN.{length-take}

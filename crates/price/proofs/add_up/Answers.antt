@@ -2,7 +2,7 @@
 use mathlib.Core.Path.{◌≡◌, refl, sym, ◌∙◌}
 use mathlib.Core.Logic.{⊎_elim}
 use native.Mathlib.Omega.{arith}
-use Prim.Native.Nat.{◌≤◌, ◌<◌}
+use Prim.Native.Nat.{◌<◌}
 use lib.ListN.{length, get_or}
 use Rattle.std.proofs.lemmas.List.{get_or_default}
 use Rattle.picture.proofs.Finding.{scanning_begun, scanning_hit, scanning_miss, scanning_ended}
@@ -44,7 +44,7 @@ loop-i-preserved c =
             | then-b-lt-BLOCKS_MAX w ↦
                 rw (w.counters-is, fed)
                 (summing_hit _ _ c.loop-i.counters c.loop-i.i i.summing below e (rw fed at w.if-b-lt-BLOCKS_MAX.true)
-                 (rw (← e) at (record_small c.args.records.now c.loop-i.i)) refl)
+                (rw (← e) at (record_small c.args.records.now c.loop-i.i)) refl)
             | else-b-lt-BLOCKS_MAX w ↦
                 rw w.counters-is (summing_miss _ _ c.loop-i.counters c.loop-i.i i.summing below e (rw fed at w.if-b-lt-BLOCKS_MAX.false))
           ];

@@ -1,7 +1,7 @@
 -- `location_feeders` says the block of each reached slot. Assumes nothing.
 use mathlib.Core.Path.{◌≡◌, sym, ◌∙◌}
 use native.Mathlib.Omega.{arith}
-use Prim.Native.Nat.{◌-◌, ◌/◌, ◌≤◌}
+use Prim.Native.Nat.{◌-◌, ◌/◌}
 use native.Mathlib.Nat.{div-mul-le_self}
 use Rattle.picture.proofs.Facts.{read_sizes, read_slots_most}
 use Rattle.lists.proofs.Filling.{filled_begun, filled_next, filled_left}

@@ -1,5 +1,5 @@
 -- `nth_record` reads three bytes. Assumes nothing.
-use mathlib.Core.Path.{◌≡◌, sym, ◌∙◌}
+use mathlib.Core.Path.{sym, ◌∙◌}
 use native.Mathlib.Omega.{arith}
 use Prim.Native.Nat.{◌+◌, ◌*◌}
 use Rattle.bits.proofs.Reading.{field_at_byte, field_at_lt}

@@ -1,13 +1,11 @@
 -- `price` prices the blocks of any bytes from records of any bytes. Assumes nothing.
-use mathlib.Core.Path.{◌≡◌, refl, sym, ◌∙◌}
-use mathlib.Core.Logic.{⊎_elim}
 use native.Mathlib.Omega.{arith}
 use Rattle.std.proofs.lemmas.Result.{err_from_is_err_and}
 use Rattle.picture.proofs.Facts.{read_limited}
 use Rattle.picture.proofs.Refusing.{answered_err, numbers_err}
 use Rattle.network.proofs.Blocks.{read_endpoints}
 use Rattle.price.specs.Rules.{Whole}
-use Rattle.price.specs.Answers.{counters, pricing}
+use Rattle.price.specs.Answers.{pricing}
 use Rattle.price.proofs.Answering.{price_faulty, price_strays, price_odd, price_added}
 use Rattle.price.proofs.price.Goals as goal
 use Rattle.price.proofs.price.Goals.{Joined-then-records-ne0, then-records-ne0-via-then-records-ne0, then-records-ne0-via-else-records-ne0+then-records}
@@ -51,5 +49,5 @@ returns c =
     let f = rw same at c.in_ok-reached.ensures.0 in
     let r = rw same at c.header.ensures in
     let a = price_added _ c.args.records.now z f (record { multiple = c.if-records-ne0.false; most = c.if-records.false }) (rw same at c.endpoint_feeders-feeders.ensures) _
-        (rw (read_endpoints _ _ r) at c.add_up.ensures) in
+    (rw (read_endpoints _ _ r) at c.add_up.ensures) in
     record { answer = a.0; numbers = a.1 }
