@@ -39,6 +39,9 @@ static const char *message(int32_t answer)
     case BLOCKPLAN_REFUSED_VERDICT: return "the evidence does not support its own verdict";
     case BLOCKPLAN_REFUSED_SERVICE_LOCATION: return "a service link names a location that is not there";
     case BLOCKPLAN_REFUSED_SERVICE_ENDPOINT: return "a service link names an endpoint that is not there";
+    case BLOCKPLAN_REFUSED_LINK_START: return "a link starts elsewhere than at the origin";
+    case BLOCKPLAN_REFUSED_RECORDS: return "the records are cut off or too many";
+    case BLOCKPLAN_REFUSED_RECORD_ENDPOINT: return "a record names an endpoint that is not there";
     default: return "unknown answer";
     }
 }

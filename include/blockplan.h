@@ -60,7 +60,8 @@ extern "C" {
 #define BLOCKPLAN_LINKS_MAX 2000 /* links, and as many service links */
 #define BLOCKPLAN_PICTURE_MAX 11553
 
-/* Traffic records for price, three bytes each: endpoint 8, weight 16, high byte first. */
+/* Traffic records, which price takes: each has its endpoint in one byte and a weight in two, high byte first. */
+#define BLOCKPLAN_RECORD_BYTES 3
 #define BLOCKPLAN_RECORDS_MAX 60000
 
 /*

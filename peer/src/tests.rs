@@ -3,6 +3,7 @@
 use crate::edition::{FIRST, MAX_BLOCKS, MAX_BLOCK_SIZE, MAX_ENDPOINTS, MAX_EVIDENCE_BYTES};
 use crate::edition::{MAX_LINKS, MAX_PICTURE_BYTES, MAX_SLOTS};
 use crate::picture::State;
+use crate::price::{MAX_RECORDS, RECORD_BYTES};
 use crate::samples::{all, case, case_a, files, longest, wide, A_BYTES, A_EVIDENCE};
 use crate::{check, choose, evict, free, listing, pack, read, refusals, reload, show, weigh, Picture};
 use crate::{lists_of, write, Lists};
@@ -94,6 +95,8 @@ fn the_header_has_the_limits() {
         ("LINKS_MAX", MAX_LINKS),
         ("PICTURE_MAX", MAX_PICTURE_BYTES),
         ("EVIDENCE_MAX", MAX_EVIDENCE_BYTES),
+        ("RECORD_BYTES", RECORD_BYTES),
+        ("RECORDS_MAX", MAX_RECORDS),
     ];
     for (name, value) in sizes {
         assert_eq!(in_header(&format!("BLOCKPLAN_{name}")), value, "{name}");

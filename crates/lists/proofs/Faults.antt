@@ -128,6 +128,10 @@ first_map_none f d [] e i h = absurd (not-suc-le-zero h)
 first_map_none f d (x ∷ l) e zero h = first_zero (f x ∷ map f l) e 0
 first_map_none f d (x ∷ l) e (suc i) h = first_map_none f d l (sym (first_skip (f x) (map f l) (first_zero (f x ∷ map f l) e 0)) ∙ e) i (le_of_suc-le-suc h)
 
+-- and where no element has a fault, their list has none
+pub first_map_clean : {A : Type 0} (f : A → ℕ) (d : A) (l : List A) → ((i : ℕ) → i < length l → f (get_or l i d) ≡ 0) → first (map f l) ≡ 0
+first_map_clean f d l c = sym (scan_ended f d l (length l) (record { before = c }) (omega arith))
+
 -- the element whose fault is the first
 pub record Faulty {A : Type 0} (f : A → ℕ) (d : A) (l : List A) : Type 0 where
   pub place : ℕ

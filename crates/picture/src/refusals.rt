@@ -26,7 +26,7 @@ pub enum Refusal {
     Fill,
     // Weigh and the acts: no block of this number.
     NoBlock,
-    // Choose, write, generate: the buffer is under the length of the evidence, or of the picture.
+    // Choose, write, generate: the buffer is under the length of the evidence, or of the picture. Price for C: there are fewer than sixty counters.
     Buffer,
     // Evict, free: a protected endpoint would be cut.
     Protected,

@@ -19,7 +19,7 @@ use Rattle.price.specs.Faults.{flat_fault, length_fault, records_fault, price_fa
 use Rattle.price.specs.Answers.{counters, pricing, pricing_numbers}
 use Rattle.price.specs.Inner.{EndpointsTell, Adding}
 use Rattle.price.proofs.Pricing.{fed_counters}
-use Rattle.price.proofs.Judged.{is_whole, right_whole, whole_right, right_flat, right_known}
+use Rattle.price.proofs.Judged.{is_whole, right_whole, whole_right, right_flat, right_endpoints}
 
 module _ (bs records : List ℕ) where
   -- the picture has a fault
@@ -52,6 +52,6 @@ module _ (bs records : List ℕ) where
       unfolding pricing
       price_added w t (Ok cs) a =
           let k = price_read w a.0 in
-          let e = a.1 ∙ fed_counters bs z (right_flat (picture_of bs) (sym f)) (records_of records) (right_known _ _ (sym a.0)) t in
+          let e = a.1 ∙ fed_counters bs z (right_flat (picture_of bs) (sym f)) (records_of records) (right_endpoints _ _ (sym a.0)) t in
           (answered_ok k e, numbers_ok (λ cs. cs) k e)
       price_added w t (Err e) q = (answered_err _ e (price_read w q), numbers_err (λ cs. cs) _ e (price_read w q))

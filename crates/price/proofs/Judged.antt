@@ -11,7 +11,7 @@ use lib.ListN.{length, get_or}
 use Rattle.lists.specs.Lists.{on, first}
 use Rattle.lists.specs.Rules.{Rule, Judged, AllHold, more, none}
 use Rattle.lists.proofs.Tests.{and_T, not_not_T}
-use Rattle.lists.proofs.Faults.{on_zero, on_told, scan_ended, first_map_none, judge_right, judge_each, judge_none, Numbered, judged_all, all_judged}
+use Rattle.lists.proofs.Faults.{on_zero, on_told, first_map_none, first_map_clean, judge_right, judge_each, judge_none, Numbered, judged_all, all_judged}
 use Rattle.lists.proofs.Rules.{judged_then, numbered_both, hold_left, hold_right}
 use Rattle.picture.specs.declared.Link.{Link}
 use Rattle.picture.specs.Picture.{Picture, picture_of}
@@ -23,12 +23,8 @@ use Rattle.network.proofs.Named.{joins_at, at_joins}
 use Rattle.price.specs.declared.Record.{Record}
 use Rattle.price.specs.Traffic.{record_bytes, records_max, records_of, no_record}
 use Rattle.price.specs.Feeders.{Flat}
-use Rattle.price.specs.Rules.{Whole, Known, price_rules}
+use Rattle.price.specs.Rules.{Whole, Endpoints, price_rules}
 use Rattle.price.specs.Faults.{link_start_fault, flat_fault, length_fault, record_fault, records_fault, price_fault}
-
--- where no element has a fault, their list has none: `first_map_none` of lists is the other way
-none_first : {A : Type 0} (f : A → ℕ) (d : A) (l : List A) → ((i : ℕ) → i < length l → f (get_or l i d) ≡ 0) → first (map f l) ≡ 0
-none_first f d l c = sym (scan_ended f d l (length l) (record { before = c }) (omega arith))
 
 -- ---- a flat network
 
@@ -58,7 +54,7 @@ module _ (p : Picture) where
 
   pub flat_right : Flat p → flat_fault p ≡ 0
   unfolding flat_fault
-  flat_right f = none_first link_start_fault no_link p.links (flat_starts f)
+  flat_right f = first_map_clean link_start_fault no_link p.links (flat_starts f)
 
 -- ---- the length of the records
 
@@ -93,20 +89,20 @@ module _ (d : ℕ) where
   record_told r = on_told _ 21
 
   module _ (rs : List Record) where
-    each_known : ((i : ℕ) → i < length rs → record_fault d (get_or rs i no_record) ≡ 0) → Known d rs
-    each_known c = record { some = λ i h. (right_record _ (c i h)).0; most = λ i h. (right_record _ (c i h)).1 }
+    each_endpoint : ((i : ℕ) → i < length rs → record_fault d (get_or rs i no_record) ≡ 0) → Endpoints d rs
+    each_endpoint c = record { some = λ i h. (right_record _ (c i h)).0; most = λ i h. (right_record _ (c i h)).1 }
 
-    known_each : Known d rs → (i : ℕ) → i < length rs → record_fault d (get_or rs i no_record) ≡ 0
-    known_each k i h = record_right _ (k.some i h) (k.most i h)
+    endpoint_each : Endpoints d rs → (i : ℕ) → i < length rs → record_fault d (get_or rs i no_record) ≡ 0
+    endpoint_each k i h = record_right _ (k.some i h) (k.most i h)
 
     -- no record has a fault exactly where all name an endpoint of the picture
-    pub right_known : records_fault d rs ≡ 0 → Known d rs
+    pub right_endpoints : records_fault d rs ≡ 0 → Endpoints d rs
     unfolding records_fault
-    right_known e = each_known (first_map_none (record_fault d) no_record rs e)
+    right_endpoints e = each_endpoint (first_map_none (record_fault d) no_record rs e)
 
-    pub known_right : Known d rs → records_fault d rs ≡ 0
+    pub endpoints_right : Endpoints d rs → records_fault d rs ≡ 0
     unfolding records_fault
-    known_right k = none_first (record_fault d) no_record rs (known_each k)
+    endpoints_right k = first_map_clean (record_fault d) no_record rs (endpoint_each k)
 
 -- ---- the number, and when a call is answered with counters
 
@@ -115,7 +111,7 @@ pub record Right (bs records : List ℕ) : Type 0 where
   pub accepted : picture_fault bs ≡ 0
   pub flat : Flat (picture_of bs)
   pub whole : Whole records
-  pub known : Known (endpoint_count (picture_of bs)) (records_of records)
+  pub endpoints : Endpoints (endpoint_count (picture_of bs)) (records_of records)
 
 module _ (bs records : List ℕ) where
   -- which number
@@ -129,7 +125,7 @@ module _ (bs records : List ℕ) where
       (λ z.
       judge_each _ _ link_start_fault no_link p.links _ (starts_flat p) (flat_starts p) start_told
       (judge_right _ _ (is_whole records) _ (λ e. absurd (omega arith)) (right_whole records) (whole_right records)
-      (judge_each _ _ (record_fault d) no_record rs [] (each_known d rs) (known_each d rs) (record_told d) judge_none)))
+      (judge_each _ _ (record_fault d) no_record rs [] (each_endpoint d rs) (endpoint_each d rs) (record_told d) judge_none)))
 
   -- no number is 0
   price_numbered : Numbered (price_rules bs records)
@@ -148,7 +144,7 @@ module _ (bs records : List ℕ) where
   priced_right z =
       let held = priced_holds z in
       let own = three (hold_right (rules bs) _ held) in
-      record { accepted = holds_accepted bs (hold_left (rules bs) _ held); flat = own.0; whole = own.1; known = own.2 }
+      record { accepted = holds_accepted bs (hold_left (rules bs) _ held); flat = own.0; whole = own.1; endpoints = own.2 }
     where
       three : {r s t : Rule} → AllHold (r ∷ s ∷ t ∷ []) → r.holds × s.holds × t.holds
       three (more f (more w (more k none))) = (f, w, k)

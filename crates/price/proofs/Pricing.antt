@@ -30,7 +30,7 @@ use Rattle.network.proofs.Weights.{cut_sum}
 use Rattle.price.specs.declared.Record.{Record}
 use Rattle.price.specs.Traffic.{records_of, traffic}
 use Rattle.price.specs.Feeders.{Flat, OnlyFeeder, Added, WeightOf, Priced}
-use Rattle.price.specs.Rules.{Known}
+use Rattle.price.specs.Rules.{Endpoints}
 use Rattle.price.specs.Faults.{price_fault}
 use Rattle.price.specs.Answers.{counters}
 use Rattle.price.specs.Inner.{told, together, EndpointsTell, fed}
@@ -147,7 +147,7 @@ module _ (bs : List ℕ) (z : picture_fault bs ≡ 0) (f : Flat (picture_of bs))
 
     -- ---- and sums over records, where each is of an endpoint
 
-    module _ (k : Known (endpoint_count p) rs) where
+    module _ (k : Endpoints (endpoint_count p) rs) where
       -- by what the block cuts
       loss_records : (b : ℕ) → loss b ≡ sum (map (λ r. on (cuts b r.endpoint) r.weight) rs)
       unfolding sum_where
@@ -191,10 +191,10 @@ module _ (bs : List ℕ) (z : picture_fault bs ≡ 0) (f : Flat (picture_of bs))
 pub priced : (bs records : List ℕ) → price_fault bs records ≡ 0 → Priced (picture_of bs) (records_of records) (counters (picture_of bs) (records_of records))
 priced bs records z =
     let r = priced_right bs records z in
-    priced_by bs r.accepted r.flat (records_of records) r.known
+    priced_by bs r.accepted r.flat (records_of records) r.endpoints
     (omega (
       arith,
-      counters_together bs r.accepted r.flat (records_of records) r.known,
+      counters_together bs r.accepted r.flat (records_of records) r.endpoints,
       records_le (λ c. ltb (tells bs r.accepted r.flat c) blocks_max) weight_max (records_of records) (λ i s. record_small records i),
       records_length records,
       r.whole.most,

@@ -11,7 +11,7 @@ use Rattle.price.specs.declared.Record.{Record}
 use Rattle.price.specs.Traffic.{records_of, traffic}
 use Rattle.price.specs.Faults.{price_fault}
 
--- the counter of each block is its loss "when a cab weighs the sum of its records"
+-- sixty: that of each block is its loss "when a cab weighs the sum of its records", and past the last block they are 0
 unfoldable pub counters : Picture → List Record → List ℕ
 counters p rs =
     let now : List Bool = marks p (is_held p) in

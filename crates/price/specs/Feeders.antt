@@ -26,7 +26,7 @@ pub record OnlyFeeder (p : Picture) (b c : ℕ) : Type 0 where
   pub only : (a : ℕ) → Feeds p a c → a ≡ b
   pub origin : ¬ T (joins p.service_links 0 c)
 
--- some block is so
+-- some block is: a record of c is added
 pub record Added (p : Picture) (c : ℕ) : Type 0 where
   pub block : ℕ
   pub feeder : OnlyFeeder p block c
@@ -47,5 +47,5 @@ pub record Priced (p : Picture) (rs : List Record) (counters : List ℕ) : Type 
   pub together : WeightOf rs (Added p) (sum counters)
   -- "0 past the last block"
   pub past : (b : ℕ) → block_count p ≤ b → get_or counters b 0 ≡ 0
-  -- "of 32 bits"
+  -- "of 32 bits", even all of them together
   pub fits : sum counters < 2 ^ 32

@@ -14,7 +14,7 @@ pub record Whole (records : List ℕ) : Type 0 where
   pub most : length records ≤ records_max * record_bytes
 
 -- not so: "a record for cab 0 or above D"
-pub record Known (d : ℕ) (rs : List Record) : Type 0 where
+pub record Endpoints (d : ℕ) (rs : List Record) : Type 0 where
   pub some : (i : ℕ) → i < length rs → 1 ≤ (get_or rs i no_record).endpoint
   pub most : (i : ℕ) → i < length rs → (get_or rs i no_record).endpoint ≤ d
 
@@ -25,5 +25,5 @@ price_rules bs records =
     rules bs
     ++ (record { number = 19; holds = Flat (picture_of bs) }
     ∷ record { number = 20; holds = Whole records }
-    ∷ record { number = 21; holds = Known (endpoint_count (picture_of bs)) (records_of records) }
+    ∷ record { number = 21; holds = Endpoints (endpoint_count (picture_of bs)) (records_of records) }
     ∷ [])

@@ -1,13 +1,12 @@
 // Pricing the blocks of a flat network, where every link starts at the origin: what each block would lose, by one pass over records of traffic.
 #![tactic(auto)]
 
-ghost use Rattle.std.specs.Prelude.{◌≡◌, ◌+◌, ◌*◌, ◌≤◌, ◌<◌, length, get_or};
+ghost use Rattle.std.specs.Prelude.{◌≡◌, ◌+◌, ◌*◌, ◌≤◌, length, get_or};
 ghost use Rattle.lists.specs.Lists.{outcome};
 ghost use Rattle.picture.specs.Layout.{endpoints_max};
 ghost use Rattle.picture.specs.Picture.{picture_of};
-ghost use Rattle.network.specs.Words.{endpoint_count};
 ghost use Rattle.price.specs.Traffic.{no_record, record_bytes, records_max, records_of};
-ghost use Rattle.price.specs.Faults.{length_fault, price_fault};
+ghost use Rattle.price.specs.Faults.{price_fault};
 ghost use Rattle.price.specs.Answers.{counters, pricing, pricing_numbers};
 ghost use Rattle.price.specs.Inner.{SlotsReached, ReachedRow, joint, LocationsTell, EndpointsTell, Adding};
 
@@ -15,17 +14,18 @@ use network::ENDPOINTS;
 use picture::{BLOCKS_MAX, Picture, Refusal};
 use rows::{LOCATIONS, Row, WORDS};
 
-// A record has its endpoint in one byte and its weight in two, high byte first.
-const RECORD_BYTES: usize = 3;
+// The bytes of a record: its endpoint in the first, its weight in two more, high byte first.
+pub const RECORD_BYTES: usize = 3;
 
-const RECORDS_MAX: usize = 60_000;
+// So many records of the largest weight together have room in a counter.
+pub const RECORDS_MAX: usize = 60_000;
 
-// What the service links to an endpoint tell: the number of its one feeder, or one of these two.
+// What service links tell of an endpoint: the number of the one block that feeds it; or that nothing does, or that no block is the one.
 const NO_FEEDER: u8 = 254;
 
 const NOT_ONE: u8 = 255;
 
-// What an endpoint read weighs so much.
+// A traffic record.
 #[derive(Clone, Copy)]
 pub struct Record {
     pub endpoint: usize,
@@ -40,11 +40,12 @@ fn nth_record(records: &[u8], i: usize) -> Record
     let at = i * RECORD_BYTES;
     Record {
         endpoint: usize::from(records[at]),
+        // Kept: two bytes are proved to fit, and `try_from` with `unwrap` says no more; so below.
         weight: bits::bytes(records, at + 1, 2) as u32,
     }
 }
 
-// The row of the slots that are reached: in a flat network these are the held ones with a link from the origin.
+// The row of the slots that are reached: in a flat network these are the held ones with a link from the origin. A link from elsewhere is refused.
 fn reached_slots(p: &Picture) -> Result<Row, Refusal>
     ensures { SlotsReached (picture_of p.now) result }
 {
@@ -64,7 +65,8 @@ fn reached_slots(p: &Picture) -> Result<Row, Refusal>
     Ok(reached)
 }
 
-// What a service link from each location tells of its endpoint: its block feeds it, or nothing does; the origin, that no block is its one feeder.
+// What a service link from each location tells of its endpoint: one from a reached slot its block, one from any other slot nothing, and one from
+// the origin that no block is the one feeder.
 fn location_feeders(p: &Picture, reached: &Row) -> [u8; LOCATIONS]
     requires { ReachedRow (picture_of p.now) reached.now }
     ensures { LocationsTell (picture_of p.now) result }
@@ -129,7 +131,8 @@ fn add_up(records: &[u8], feeders: &[u8; ENDPOINTS], d: usize) -> Result<[u32; B
     Ok(counters)
 }
 
-// Prices the blocks of a picture of any bytes from records of any bytes.
+// Prices the blocks of a flat network: of each block, candidate or not, the weight that it loses where an endpoint weighs the sum of its records; 0
+// past the last block. Picture and records may have any bytes.
 pub fn price(s: &[u8], records: &[u8]) -> Result<[u32; BLOCKS_MAX], Refusal>
     ensures answer { result ≡ pricing s.now records.now }
     ensures numbers { pricing_numbers result ≡ outcome (price_fault s.now records.now) (counters (picture_of s.now) (records_of records.now)) }

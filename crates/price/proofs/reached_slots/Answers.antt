@@ -4,6 +4,7 @@ use native.Mathlib.Omega.{arith}
 use Prim.Native.Nat.{◌<◌}
 use lib.ListN.{length, get_or}
 use Rattle.picture.specs.declared.Link.{Link}
+use Rattle.rows.specs.Rows.{marks_max}
 use Rattle.picture.specs.Picture.{picture_of}
 use Rattle.picture.specs.Rules.{no_link}
 use Rattle.picture.proofs.Facts.{read_limited, read_picture, read_links, read_links_length, read_slots_most}
@@ -18,6 +19,13 @@ use Rattle.price.proofs.reached_slots.Goals.{After-nth_link-l, then-has, else-ha
 link : (c : After-nth_link-l) → c.nth_link-l.result ≡ get_or (picture_of c.args.p.now).links c.loop-i.i no_link
 link c = rw (c.bytes-s.ensures, read_picture _ _ c.header-h.ensures) at c.nth_link-l.ensures
 
+-- it leads to a location that is there
+location : (c : After-nth_link-l) → c.nth_link-l.result.to < marks_max
+location c =
+    let r = c.header-h.ensures in
+    let below : c.loop-i.i < length (picture_of c.args.p.now).links = omega (arith, read_links_length _ _ r) in
+    rw (link c) (omega (arith, read_slots_most _ _ r, (read_links _ _ r).to c.loop-i.i below))
+
 pub loop-i-init : goal.loop-i-init
 loop-i-init c = record { scanned = scanning_begun (read_links_length _ _ c.header-h.ensures); reaching = reaching_begun _ _ }
 
@@ -30,16 +38,10 @@ returns-then-l-ne0 c =
     scanning_hit c.loop-i.invariant.scanned (omega arith) (link (goal.at.returns-then-l-ne0 c).After-nth_link-l) (sym (start_told _ (λ z. c.if-l-ne0.true (right_start _ z)))) (λ z. absurd (omega arith))
 
 pub has-requires : goal.has-requires
-has-requires c =
-    let r = c.header-h.ensures in
-    let below : c.loop-i.i < length (picture_of c.args.p.now).links = omega (arith, read_links_length _ _ r) in
-    rw (link (goal.at.has-requires c).After-nth_link-l) (omega (arith, read_slots_most _ _ r, (read_links _ _ r).to c.loop-i.i below))
+has-requires c = location (goal.at.has-requires c).After-nth_link-l
 
 pub add-requires : goal.add-requires
-add-requires c =
-    let r = c.header-h.ensures in
-    let below : c.loop-i.i < length (picture_of c.args.p.now).links = omega (arith, read_links_length _ _ r) in
-    rw (link (goal.at.add-requires c).After-nth_link-l) (omega (arith, read_slots_most _ _ r, (read_links _ _ r).to c.loop-i.i below))
+add-requires c = location (goal.at.add-requires c).After-nth_link-l
 
 pub loop-i-preserved : goal.loop-i-preserved
 loop-i-preserved c =
