@@ -208,7 +208,8 @@ int32_t blockplan_generate(uint64_t seed, uint32_t block_size, uint32_t blocks, 
  * do all after a refusal. Returns 0.
  *
  * A record adds its weight to the counter of the one block that feeds its endpoint, by slots that are held and have a link from the origin; it adds
- * nothing where several blocks feed it or none does, or the origin has a service link to it.
+ * nothing where several blocks feed it or none does, or the origin has a service link to it. A counter has room for all records of a call; more
+ * records are priced by several calls, whose counters add up, and their sums may need more bits.
  *
  * Refuses with the picture's numbers, and then, in this order, with
  *

@@ -192,7 +192,7 @@ pub fn flat(random: &mut Random, size: Size) -> Picture {
 }
 
 /// A flat random network for measuring: every slot is held, near and, where there are links enough,
-/// reached, and each endpoint has one block that serves it.
+/// reached, and each endpoint's serving links start at slots of one block.
 pub fn flat_held(random: &mut Random, size: Size) -> Picture {
     let mut picture = dense_held(random, size);
     picture.links = (0..size.links).map(|link| (0, (link % size.slots + 1) as u16)).collect();

@@ -149,16 +149,9 @@ pub fn broken_price(picture: &[u8], records: &[u8], counters: &[u32]) -> Option<
         Ok(judged) => judged,
         Err(number) => return Some(format!("{number} was due")),
     };
-    let feeders = only_feeders(&picture);
-    let is_added = |record: &&Record| feeders[record.place()].is_some();
-    let weight: u64 = records.iter().filter(is_added).map(|record| u64::from(record.weight)).sum();
-    let together: u64 = counters.iter().copied().map(u64::from).sum();
-    if together != weight {
-        return Some(format!("records of weight {weight} are added, and the counters have {together}"));
-    }
-    let mut both = added(&feeders, &records).into_iter().zip(counters);
-    let block = both.position(|(due, counter)| due != *counter)?;
-    Some(format!("the counter of block {block} is not what the block alone feeds"))
+    let due = added(&only_feeders(&picture), &records);
+    let is_kept = counters == due;
+    (!is_kept).then(|| format!("what each block alone feeds is {due:?}"))
 }
 
 /// So many records of chance for the endpoints 1 to `endpoints`, some of them for few; none where there

@@ -4,6 +4,7 @@
 ghost use Rattle.std.specs.Prelude.{◌≡◌, [], ◌∷◌, ℕ, ◌^◌, ◌<◌, pos, neg_ℤ};
 ghost use Rattle.std.specs.Int.{w32};
 ghost use Rattle.std.proofs.Common.{SFits};
+ghost use Rattle.lists.specs.Lists.{outcome};
 ghost use Rattle.picture.specs.Refusals.{answer_numbers};
 ghost use Rattle.evidence.specs.Calls.{chosen_bytes};
 ghost use Rattle.choose.specs.Answers.{choosing, choosing_numbers};
@@ -14,7 +15,7 @@ ghost use Rattle.write.specs.Columns.{handed};
 ghost use Rattle.write.specs.Answers.{writing_numbers};
 ghost use Rattle.generator.specs.Generated.{asked_header};
 ghost use Rattle.generator.specs.Answers.{generating, generated_bytes};
-ghost use Rattle.blockplan_c.specs.Answers.{to_c, WritesForC, pricing_into, priced_into};
+ghost use Rattle.blockplan_c.specs.Answers.{to_c, WritesForC, price_into_fault, priced_into, PricesInto};
 
 use picture::{BLOCKS_MAX, Refusal};
 
@@ -161,24 +162,24 @@ pub extern "C" fn blockplan_generate(
     ))
 }
 
-// Prices blocks into a buffer, which is judged last.
-fn price_into(picture: &[u8], records: &[u8], counters: &mut [u32]) -> Result<(), Refusal>
-    ensures answer { result ≡ pricing_into picture.now records.now counters.old }
-    ensures bytes { counters.new ≡ priced_into picture.now records.now counters.old }
+// Prices blocks into a buffer, which is judged last: how many counters it wrote.
+fn price_into(picture: &[u8], records: &[u8], counters: &mut [u32]) -> Result<usize, Refusal>
+    ensures { PricesInto picture.now records.now counters.old result counters.new }
 {
     let prices = price::price(picture, records)?;
     if counters.len() < BLOCKS_MAX {
         return Err(Refusal::Buffer);
     }
     counters[..BLOCKS_MAX].copy_from_slice(&prices);
-    Ok(())
+    Ok(BLOCKS_MAX)
 }
 
 // Prices the blocks of a flat network from traffic records, into the first sixty counters: 0, or minus the number of the first fault.
+#[tactic(auto, unfolding(crate::specs::Answers::priced_into))]
 #[unsafe(no_mangle)]
 pub extern "C" fn blockplan_price(picture: &[u8], records: &[u8], counters: &mut [u32]) -> i32
-    ensures answer { result ≡ to_c (answer_numbers (λ _. []) (pricing_into picture.now records.now counters.old)) }
+    ensures answer { result ≡ to_c (outcome (price_into_fault picture.now records.now counters.old) []) }
     ensures bytes { counters.new ≡ priced_into picture.now records.now counters.old }
 {
-    done_number(price_into(picture, records, counters))
+    done_number(price_into(picture, records, counters).and(Ok(())))
 }

@@ -497,12 +497,17 @@ table =
     ∷ record { question = price (set case_flat 8 0x00) flat_records; says = 0 ∷ sixty (358 ∷ 4000 ∷ 20 ∷ []) }
     ∷ record { question = price (set case_flat 7 0x34) flat_records; says = 0 ∷ sixty (358 ∷ 1200 ∷ 20 ∷ []) }
     ∷ record { question = price (set (set case_flat 7 0xB6) 8 0x48) flat_records; says = 0 ∷ sixty (0 ∷ 0 ∷ 20 ∷ []) }
-    -- 19: case A, whatever the states of its slots (G); and link 4-0 for 0-0, from a slot that is not held. 6 and 7 come before it
+    -- link 0-1 twice
+    ∷ record { question = price (set case_flat 33 1) flat_records; says = 0 ∷ sixty (358 ∷ 1000 ∷ 20 ∷ []) }
+    -- 19: case A, whatever the states of its slots (G); and link 4-0 for 0-0, from a slot that is not held. 6, 17, 18 and 7 come before it
     ∷ record { question = price case_a []; says = 19 ∷ [] }
     ∷ record { question = price case_g []; says = 19 ∷ [] }
     ∷ record { question = price (set case_flat 32 4) flat_records; says = 19 ∷ [] }
     ∷ record { question = price (set (set case_flat 32 4) 33 7) flat_records; says = 6 ∷ [] }
+    ∷ record { question = price (set (set case_flat 32 4) 54 7) flat_records; says = 17 ∷ [] }
+    ∷ record { question = price (set (set case_flat 32 4) 55 7) flat_records; says = 18 ∷ [] }
     ∷ record { question = price (set case_flat 32 4 ++ (0 ∷ [])) flat_records; says = 7 ∷ [] }
+    ∷ record { question = price case_second []; says = 19 ∷ [] }
     ∷ record { question = price [] (0 ∷ []); says = 1 ∷ [] }
     -- 20: one byte and two bytes more, after 19 and before 21
     ∷ record { question = price case_flat (flat_records ++ (1 ∷ [])); says = 20 ∷ [] }
@@ -512,6 +517,7 @@ table =
     -- 21: endpoints 0 and 7, also where the record weighs nothing, and without endpoints any; endpoint 6 is the last
     ∷ record { question = price case_flat (flat_records ++ (0 ∷ 0 ∷ 0 ∷ [])); says = 21 ∷ [] }
     ∷ record { question = price case_flat (7 ∷ 0 ∷ 1 ∷ []); says = 21 ∷ [] }
+    ∷ record { question = price flat_second (7 ∷ 0 ∷ 1 ∷ []); says = 21 ∷ [] }
     ∷ record { question = price case_flat (6 ∷ 0xFF ∷ 0xFF ∷ []); says = 0 ∷ sixty (0 ∷ 0 ∷ 65535 ∷ []) }
     ∷ record { question = price (slots_only 0x11 1 1) (1 ∷ 0 ∷ 1 ∷ []); says = 21 ∷ [] }
     ∷ []

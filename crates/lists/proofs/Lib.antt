@@ -10,7 +10,7 @@ pub mod Rules
 pub mod Sums
 pub mod Prefixes
 pub mod Picks
-pub mod Filling
+pub mod Storing
 pub mod Every
 pub mod Growing
 pub mod Scans

@@ -9,7 +9,7 @@ use borrow.Author.Tests.{lt-ltb}
 use lib.Dec.{ltb}
 use lib.ListN.{length, get_or}
 use Rattle.lists.proofs.Picks.{item_inside}
-use Rattle.lists.proofs.Filling.{Filled}
+use Rattle.lists.proofs.Storing.{Stored}
 use Rattle.picture.specs.Picture.{Endpoint, Picture, endpoint_of}
 use Rattle.picture.specs.Layout.{endpoints_max}
 use Rattle.network.specs.Words.{weight_of}
@@ -29,7 +29,7 @@ pub protected_outside : (p : Picture) (c : ℕ) → ¬ ((1 ≤ c) × (c ≤ leng
 protected_outside p c n = ap (λ (x : Endpoint). x.protected) (endpoint_inside p c n)
 
 -- every endpoint was looked at
-pub endpoints_looked : (p : Picture) (weights guarded : List ℕ) (c : ℕ) → c < 1 → Filled (suc endpoints_max) 0 (weight_of p) weights c
+pub endpoints_looked : (p : Picture) (weights guarded : List ℕ) (c : ℕ) → c < 1 → Stored (suc endpoints_max) 0 (weight_of p) weights c
     → Above (λ u. (endpoint_of p u).protected) guarded c → EndpointsOf p weights guarded
 endpoints_looked p weights guarded c z w s = record { many = w.many; weight = weight; protected = λ u. rw none at s.same u ∙ protected u }
   where

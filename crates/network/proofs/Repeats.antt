@@ -133,7 +133,7 @@ module _ {p q : Picture} (r : Repeated p q) where
   unfolding endpoint_of
   same_endpoint = λ i c. item (r.endpoints i) c (record { weight = 0; protected = false })
 
-  same_endpoints : endpoint_count p ≡ endpoint_count q
+  pub same_endpoints : endpoint_count p ≡ endpoint_count q
   unfolding endpoint_count
   same_endpoints = ap length r.endpoints
 
@@ -150,11 +150,11 @@ module _ {p q : Picture} (r : Repeated p q) where
   unfolding served
   repeated_service = fun_ext (λ t. fun_ext (λ c. repeats_any (λ l. get_or t l.from false && eqb l.to c) r.service_links))
 
-  same_where : sum_where p ≡ sum_where q
+  pub same_where : sum_where p ≡ sum_where q
   unfolding sum_where
   same_where = λ i w f. sum (map (λ c. on (f c) (w c)) (range 1 (same_endpoints i)))
 
-  same_cut : cut p ≡ cut q
+  pub same_cut : cut p ≡ cut q
   unfolding cut
   same_cut = λ i now left c. repeated_service i now c && not (repeated_service i left c)
 

@@ -14,7 +14,7 @@ use Rattle.picture.specs.Picture.{Picture}
 use Rattle.network.specs.Words.{slot_count, block_count, in_block, is_held, joins, Named}
 use Rattle.network.proofs.Candidates.{block_below}
 use Rattle.price.specs.Feeders.{Flat, Feeds, OnlyFeeder}
-use Rattle.price.specs.Inner.{no_feeder, not_one, told, together}
+use Rattle.price.specs.Inner.{no_feeder, not_one, told, jointly}
 use Rattle.price.proofs.Flat.{flat_reached, reached_flat, block_here, block_one}
 use Rattle.price.proofs.Telling.{Tells, tells_from, from_tells, one_told, told_one}
 
@@ -77,7 +77,7 @@ module _ {p : Picture} (f : Flat p) (n : Named p) (s : 1 ≤ p.block_size) (w : 
   reached_feeds {v} l h j k = record { slot = v; inside = block_here p s v l; reached = reached_flat p j h; serves = k }
 
   -- where a block is told, it is the one feeder: another would tell its own number, and the origin would tell that no block is
-  pub feeder_only : (b c : ℕ) → b < blocks_max → together (told p) c p.service_links ≡ b → OnlyFeeder p b c
+  pub feeder_only : (b c : ℕ) → b < blocks_max → jointly (told p) c p.service_links ≡ b → OnlyFeeder p b c
   feeder_only b c l e =
       let t = told_one (told p) c p.service_links (λ q. absurd (omega arith)) (λ q. absurd (omega arith)) e in
       let r = tells_from (told p) c t.some in
@@ -100,7 +100,7 @@ module _ {p : Picture} (f : Flat p) (n : Named p) (s : 1 ≤ p.block_size) (w : 
     only_below = feeds_below o.feeds
 
     -- where a block is the one feeder, it is told: at its slot, and elsewhere nothing else is
-    pub only_feeder : together (told p) c p.service_links ≡ b
+    pub only_feeder : jointly (told p) c p.service_links ≡ b
     only_feeder =
         one_told (told p) c (λ q. absurd (omega (arith, only_below)))
         (record {

@@ -2,13 +2,13 @@
 use mathlib.Core.Path.{◌≡◌, refl, sym, ◌∙◌}
 use mathlib.Core.Bool.{Bool, not, ◌&&◌}
 use mathlib.Core.Logic.{◌≢◌}
-use mathlib.Core.List.{List, [], ◌∷◌, map}
+use mathlib.Core.List.{List, [], ◌∷◌}
 use Prim.Native.Nat.{ℕ, ◌*◌, ◌%◌, ◌≤◌, ◌<◌}
 use native.Mathlib.Omega.{arith}
 use borrow.Author.Tests.{le-leb, eq-eqb}
 use lib.Dec.{T, eqb, leb, leb→le, eqb→eq}
 use lib.ListN.{length, get_or}
-use Rattle.lists.specs.Lists.{on, first}
+use Rattle.lists.specs.Lists.{on}
 use Rattle.lists.specs.Rules.{Rule, Judged, AllHold, more, none}
 use Rattle.lists.proofs.Tests.{and_T, not_not_T}
 use Rattle.lists.proofs.Faults.{on_zero, on_told, first_map_none, first_map_clean, judge_right, judge_each, judge_none, Numbered, judged_all, all_judged}
@@ -100,10 +100,6 @@ module _ (d : ℕ) where
     unfolding records_fault
     right_endpoints e = each_endpoint (first_map_none (record_fault d) no_record rs e)
 
-    pub endpoints_right : Endpoints d rs → records_fault d rs ≡ 0
-    unfolding records_fault
-    endpoints_right k = first_map_clean (record_fault d) no_record rs (endpoint_each k)
-
 -- ---- the number, and when a call is answered with counters
 
 -- the rules, each by a name: a view of `price_rules`
@@ -128,7 +124,7 @@ module _ (bs records : List ℕ) where
       (judge_each _ _ (record_fault d) no_record rs [] (each_endpoint d rs) (endpoint_each d rs) (record_told d) judge_none)))
 
   -- no number is 0
-  price_numbered : Numbered (price_rules bs records)
+  pub price_numbered : Numbered (price_rules bs records)
   unfolding price_rules
   price_numbered = numbered_both (rules bs) _ (numbered bs) (λ e. absurd (omega arith), (λ e. absurd (omega arith), (λ e. absurd (omega arith), tt)))
 

@@ -12,3 +12,4 @@ pub mod Adding
 pub mod Feeding
 pub mod Pricing
 pub mod Answering
+pub mod Repeats

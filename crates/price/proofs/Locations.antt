@@ -8,7 +8,7 @@ use borrow.Author.Tests.{lt-ltb}
 use lib.Dec.{eqb-suc-zero}
 use lib.ListN.{get_or, set, length-set}
 use lib.Seq.{get_or-set_same, get_or-set_other}
-use Rattle.lists.proofs.Filling.{Filled}
+use Rattle.lists.proofs.Storing.{Stored}
 use Rattle.rows.specs.Rows.{marked, locations_max}
 use Rattle.picture.specs.Picture.{Picture}
 use Rattle.network.specs.Words.{slot_count}
@@ -35,7 +35,7 @@ module _ {p : Picture} {row : List ℕ} (r : ReachedRow p row) where
   row_past v l = r.marks v ∙ simp (held_past p v l, lt-ltb 0 v (omega arith)) refl
 
   -- the slots are told, and then the origin
-  pub locations_told : {size : ℕ} {feeders : List ℕ} → p.block_size ≡ size → Filled locations_max no_feeder (by_row row size) feeders 0 → LocationsTell p (set feeders 0 not_one)
+  pub locations_told : {size : ℕ} {feeders : List ℕ} → p.block_size ≡ size → Stored locations_max no_feeder (by_row row size) feeders 0 → LocationsTell p (set feeders 0 not_one)
   unfolding told by_row
   locations_told {size} {feeders} e f = record { many = length-set feeders 0 not_one ∙ f.many; same = same }
     where

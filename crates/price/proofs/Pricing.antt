@@ -33,7 +33,7 @@ use Rattle.price.specs.Feeders.{Flat, OnlyFeeder, Added, WeightOf, Priced}
 use Rattle.price.specs.Rules.{Endpoints}
 use Rattle.price.specs.Faults.{price_fault}
 use Rattle.price.specs.Answers.{counters}
-use Rattle.price.specs.Inner.{told, together, EndpointsTell, fed}
+use Rattle.price.specs.Inner.{told, jointly, EndpointsTell, fed}
 use Rattle.price.proofs.Judged.{priced_right}
 use Rattle.price.proofs.Records.{records_length, record_small}
 use Rattle.price.proofs.Flat.{flat_cuts}
@@ -41,13 +41,13 @@ use Rattle.price.proofs.Sums.{traffic_sum, record_total, blocks_sum, records_le}
 use Rattle.price.proofs.Feeding.{feeder_only, only_below, only_feeder}
 
 -- what w says over a range, filled up with 0, is what it says over a longer range, where it says 0 from there on
-filled_up : (w : ℕ → ℕ) (i k j : ℕ) → ((c : ℕ) → i + k ≤ c → w c ≡ 0) → map w (range i k) ++ replicate j 0 ≡ map w (range i (k + j))
+padded : (w : ℕ → ℕ) (i k j : ℕ) → ((c : ℕ) → i + k ≤ c → w c ≡ 0) → map w (range i k) ++ replicate j 0 ≡ map w (range i (k + j))
 unfolding range
-filled_up w i zero zero h = refl
-filled_up w i zero (suc j) h =
+padded w i zero zero h = refl
+padded w i zero (suc j) h =
     rw zero-add
-    (ap₂ (λ (x : ℕ) (l : List ℕ). x ∷ l) (sym (h i (omega arith))) (rw zero-add at (filled_up w (suc i) 0 j (λ c l. h c (omega arith)))))
-filled_up w i (suc k) j h = rw suc-add (ap (λ (l : List ℕ). w i ∷ l) (filled_up w (suc i) k j (λ c l. h c (omega arith))))
+    (ap₂ (λ (x : ℕ) (l : List ℕ). x ∷ l) (sym (h i (omega arith))) (rw zero-add at (padded w (suc i) 0 j (λ c l. h c (omega arith)))))
+padded w i (suc k) j h = rw suc-add (ap (λ (l : List ℕ). w i ∷ l) (padded w (suc i) k j (λ c l. h c (omega arith))))
 
 module _ (bs : List ℕ) (z : picture_fault bs ≡ 0) (f : Flat (picture_of bs)) where
   abbrev p : Picture
@@ -64,8 +64,8 @@ module _ (bs : List ℕ) (z : picture_fault bs ≡ 0) (f : Flat (picture_of bs))
   size_some : 1 ≤ p.block_size
   size_some = omega (arith, read_block_size bs (header_of bs) read, (accepted_kept bs z).sizes.size_some)
 
-  blocks_whole : slot_count p % p.block_size ≡ 0
-  blocks_whole =
+  slots_whole : slot_count p % p.block_size ≡ 0
+  slots_whole =
       ap₂ (λ (n size : ℕ). n % size) (read_slots bs (header_of bs) read) (read_block_size bs (header_of bs) read)
       ∙ (accepted_kept bs z).sizes.multiple
 
@@ -76,17 +76,17 @@ module _ (bs : List ℕ) (z : picture_fault bs ≡ 0) (f : Flat (picture_of bs))
 
   -- what the service links to an endpoint tell together
   abbrev tells : ℕ → ℕ
-  tells c = together (told p) c p.service_links
+  tells c = jointly (told p) c p.service_links
 
   -- is the number of the one feeder, where it is that of a block
   tells_only : (b c : ℕ) → b < blocks_max → tells c ≡ b → OnlyFeeder p b c
-  tells_only = feeder_only f named size_some blocks_whole blocks_few
+  tells_only = feeder_only f named size_some slots_whole blocks_few
 
   only_tells : {b c : ℕ} → OnlyFeeder p b c → tells c ≡ b
-  only_tells = only_feeder f named size_some blocks_whole blocks_few
+  only_tells = only_feeder f named size_some slots_whole blocks_few
 
   feeder_below : {b c : ℕ} → OnlyFeeder p b c → b < block_count p
-  feeder_below = only_below f named size_some blocks_whole blocks_few
+  feeder_below = only_below f named size_some slots_whole blocks_few
 
   -- so some block is the one feeder where the number is that of a block
   tells_added : (c : ℕ) → T (ltb (tells c) blocks_max) → Added p c
@@ -133,7 +133,7 @@ module _ (bs : List ℕ) (z : picture_fault bs ≡ 0) (f : Flat (picture_of bs))
     unfolding counters
     counters_losses =
         let e : block_count p + (blocks_max - block_count p) ≡ blocks_max = omega (arith, blocks_few) in
-        filled_up loss 0 (block_count p) (blocks_max - block_count p) (λ b l. loss_past b (omega arith)) ∙ ap (λ (k : ℕ). map loss (range 0 k)) e
+        padded loss 0 (block_count p) (blocks_max - block_count p) (λ b l. loss_past b (omega arith)) ∙ ap (λ (k : ℕ). map loss (range 0 k)) e
 
     counters_many : length (counters p rs) ≡ blocks_max
     counters_many = ap length counters_losses ∙ length-map (range 0 blocks_max) loss ∙ length_range 0 blocks_max

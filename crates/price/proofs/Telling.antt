@@ -12,7 +12,7 @@ use Rattle.lists.specs.Lists.{any}
 use Rattle.lists.proofs.Tests.{and_T, or_T, T_and, eq_T, T-or-l, T-or-r}
 use Rattle.picture.specs.declared.Link.{Link}
 use Rattle.network.specs.Words.{joins}
-use Rattle.price.specs.Inner.{no_feeder, not_one, joint, together}
+use Rattle.price.specs.Inner.{no_feeder, not_one, joint, jointly}
 
 -- ---- two of them
 
@@ -74,13 +74,13 @@ module _ (k : ℕ → ℕ) (c : ℕ) where
       go (inr s) ih = there (ih s)
 
   -- the first service link leads to the endpoint, or not
-  pub together_here : (l : Link) (ls : List Link) → l.to ≡ c → together k c (l ∷ ls) ≡ joint (k l.from) (together k c ls)
-  unfolding together
-  together_here l ls e = rw (eq-eqb l.to c e) refl
+  pub jointly_here : (l : Link) (ls : List Link) → l.to ≡ c → jointly k c (l ∷ ls) ≡ joint (k l.from) (jointly k c ls)
+  unfolding jointly
+  jointly_here l ls e = rw (eq-eqb l.to c e) refl
 
-  pub together_other : (l : Link) (ls : List Link) → l.to ≢ c → together k c (l ∷ ls) ≡ together k c ls
-  unfolding together
-  together_other l ls n = rw (ne_eqb l.to c n) refl
+  pub jointly_other : (l : Link) (ls : List Link) → l.to ≢ c → jointly k c (l ∷ ls) ≡ jointly k c ls
+  unfolding jointly
+  jointly_other l ls n = rw (ne_eqb l.to c n) refl
 
   -- where nothing is told, none of them tells anything
   nothing : {a x s : ℕ} → Joint a x s → s ≡ no_feeder → (a ≡ no_feeder) × (x ≡ no_feeder)
@@ -89,10 +89,10 @@ module _ (k : ℕ → ℕ) (c : ℕ) where
   nothing (same e) z = (e ∙ z, z)
   nothing (apart n m o) z = absurd (omega (arith, z))
 
-  told_nothing : {ls : List Link} → together k c ls ≡ no_feeder → {y : ℕ} → Tells ls y → y ≡ no_feeder
-  told_nothing e (here {l = l} {ls = ls} q t) = sym t ∙ (nothing (joint_lem _ _) (sym (together_here l ls q) ∙ e)).0
+  told_nothing : {ls : List Link} → jointly k c ls ≡ no_feeder → {y : ℕ} → Tells ls y → y ≡ no_feeder
+  told_nothing e (here {l = l} {ls = ls} q t) = sym t ∙ (nothing (joint_lem _ _) (sym (jointly_here l ls q) ∙ e)).0
   told_nothing e (there {l = l} {ls = ls} t) =
-      told_nothing (by_cases (ℕ_discrete l.to c) (λ q. (nothing (joint_lem _ _) (sym (together_here l ls q) ∙ e)).1) (λ n. sym (together_other l ls n) ∙ e)) t
+      told_nothing (by_cases (ℕ_discrete l.to c) (λ q. (nothing (joint_lem _ _) (sym (jointly_here l ls q) ∙ e)).1) (λ n. sym (jointly_other l ls n) ∙ e)) t
 
   -- where each tells b or nothing, they tell b or nothing together
   within : {b a x s : ℕ} → Joint a x s → (a ≡ b) ⊎ (a ≡ no_feeder) → (x ≡ b) ⊎ (x ≡ no_feeder) → (s ≡ b) ⊎ (s ≡ no_feeder)
@@ -103,41 +103,41 @@ module _ (k : ℕ → ℕ) (c : ℕ) where
   within (apart n m o) (inl p) (inr q) = absurd (m q)
   within (apart n m o) (inr p) r = absurd (n p)
 
-  told_within : (ls : List Link) {b : ℕ} → ((y : ℕ) → Tells ls y → (y ≡ b) ⊎ (y ≡ no_feeder)) → (together k c ls ≡ b) ⊎ (together k c ls ≡ no_feeder)
-  unfolding together
+  told_within : (ls : List Link) {b : ℕ} → ((y : ℕ) → Tells ls y → (y ≡ b) ⊎ (y ≡ no_feeder)) → (jointly k c ls ≡ b) ⊎ (jointly k c ls ≡ no_feeder)
+  unfolding jointly
   told_within [] h = inr refl
   told_within (l ∷ ls) {b} h = go (ℕ_discrete l.to c) (told_within ls (λ y t. h y (there t)))
     where
-      go : Dec (l.to ≡ c) → (together k c ls ≡ b) ⊎ (together k c ls ≡ no_feeder) → (together k c (l ∷ ls) ≡ b) ⊎ (together k c (l ∷ ls) ≡ no_feeder)
-      go (yes e) r = rw (together_here l ls e) (within (joint_lem _ _) (h _ (here e refl)) r)
-      go (no n) r = rw (together_other l ls n) r
+      go : Dec (l.to ≡ c) → (jointly k c ls ≡ b) ⊎ (jointly k c ls ≡ no_feeder) → (jointly k c (l ∷ ls) ≡ b) ⊎ (jointly k c (l ∷ ls) ≡ no_feeder)
+      go (yes e) r = rw (jointly_here l ls e) (within (joint_lem _ _) (h _ (here e refl)) r)
+      go (no n) r = rw (jointly_other l ls n) r
 
   -- so b is told where one tells it, and the others tell it too or nothing; and only there
   pub record TellsOne (ls : List Link) (b : ℕ) : Type 0 where
     pub some : Tells ls b
     pub others : (y : ℕ) → Tells ls y → (y ≡ b) ⊎ (y ≡ no_feeder)
 
-  pub one_told : {ls : List Link} {b : ℕ} → b ≢ no_feeder → TellsOne ls b → together k c ls ≡ b
+  pub one_told : {ls : List Link} {b : ℕ} → b ≢ no_feeder → TellsOne ls b → jointly k c ls ≡ b
   one_told {ls} {b} n t = go (told_within ls t.others)
     where
-      go : (together k c ls ≡ b) ⊎ (together k c ls ≡ no_feeder) → together k c ls ≡ b
+      go : (jointly k c ls ≡ b) ⊎ (jointly k c ls ≡ no_feeder) → jointly k c ls ≡ b
       go (inl e) = e
       go (inr e) = absurd (n (told_nothing e t.some))
 
-  pub told_one : (ls : List Link) {b : ℕ} → b ≢ no_feeder → b ≢ not_one → together k c ls ≡ b → TellsOne ls b
-  unfolding together
+  pub told_one : (ls : List Link) {b : ℕ} → b ≢ no_feeder → b ≢ not_one → jointly k c ls ≡ b → TellsOne ls b
+  unfolding jointly
   told_one [] n m e = absurd (n (sym e))
   told_one (l ∷ ls) {b} n m e = go (ℕ_discrete l.to c) (told_one ls n m)
     where
       -- what the first tells comes before what the rest do
-      before : {s : ℕ} → l.to ≡ c → Joint (k l.from) (together k c ls) s → s ≡ b → (together k c ls ≡ b → TellsOne ls b) → TellsOne (l ∷ ls) b
+      before : {s : ℕ} → l.to ≡ c → Joint (k l.from) (jointly k c ls) s → s ≡ b → (jointly k c ls ≡ b → TellsOne ls b) → TellsOne (l ∷ ls) b
       before q (other a) s ih = record { some = there (ih s).some; others = λ y t. elim t [ here _ r ↦ inr (sym r ∙ a) | there u ↦ (ih s).others y u ] }
       before q (one x) s ih = record { some = here q s; others = λ y t. elim t [ here _ r ↦ inl (sym r ∙ s) | there u ↦ inr (told_nothing x u) ] }
       before q (same x) s ih = record { some = here q (x ∙ s); others = λ y t. elim t [ here _ r ↦ inl (sym r ∙ x ∙ s) | there u ↦ (ih s).others y u ] }
       before q (apart _ _ _) s ih = absurd (m (sym s))
 
-      go : Dec (l.to ≡ c) → (together k c ls ≡ b → TellsOne ls b) → TellsOne (l ∷ ls) b
-      go (yes q) ih = before q (joint_lem _ _) (sym (together_here l ls q) ∙ e) ih
+      go : Dec (l.to ≡ c) → (jointly k c ls ≡ b → TellsOne ls b) → TellsOne (l ∷ ls) b
+      go (yes q) ih = before q (joint_lem _ _) (sym (jointly_here l ls q) ∙ e) ih
       go (no o) ih =
-          let r = ih (sym (together_other l ls o) ∙ e) in
+          let r = ih (sym (jointly_other l ls o) ∙ e) in
           record { some = there r.some; others = λ y t. elim t [ here q _ ↦ absurd (o q) | there u ↦ r.others y u ] }

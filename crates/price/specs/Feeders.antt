@@ -36,16 +36,16 @@ abbrev pub WeightOf : List Record → (ℕ → Type 0) → ℕ → Type 0
 WeightOf rs P s = Total (λ i. P (get_or rs i no_record).endpoint) (λ i. (get_or rs i no_record).weight) 0 (length rs) s
 
 -- what the counters of a flat network's blocks are
-pub record Priced (p : Picture) (rs : List Record) (counters : List ℕ) : Type 0 where
+pub record Priced (p : Picture) (rs : List Record) (cs : List ℕ) : Type 0 where
   -- "sixty counters"
-  pub many : length counters ≡ blocks_max
+  pub many : length cs ≡ blocks_max
   -- "a record with exactly one feeder and no serving link from the office adds its weight to that block"
-  pub records : (b : ℕ) → WeightOf rs (OnlyFeeder p b) (get_or counters b 0)
+  pub records : (b : ℕ) → WeightOf rs (OnlyFeeder p b) (get_or cs b 0)
   -- "each counter equals the loss by 01's definition when a cab weighs the sum of its records"
-  pub loss : (b : ℕ) → Sum p (traffic rs) (Cuts p b) (get_or counters b 0)
+  pub loss : (b : ℕ) → Sum p (traffic rs) (Cuts p b) (get_or cs b 0)
   -- "the counters together equal the weight of the records that were added"
-  pub together : WeightOf rs (Added p) (sum counters)
+  pub together : WeightOf rs (Added p) (sum cs)
   -- "0 past the last block"
-  pub past : (b : ℕ) → block_count p ≤ b → get_or counters b 0 ≡ 0
+  pub past : (b : ℕ) → block_count p ≤ b → get_or cs b 0 ≡ 0
   -- "of 32 bits", even all of them together
-  pub fits : sum counters < 2 ^ 32
+  pub fits : sum cs < 2 ^ 32

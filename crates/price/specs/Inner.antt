@@ -35,9 +35,9 @@ unfoldable pub joint : ℕ → ℕ → ℕ
 joint one other = cond (eqb one no_feeder || eqb one other) other (cond (eqb other no_feeder) one not_one)
 
 -- what all service links to endpoint c tell together, where those from v tell k v
-unfoldable pub together : (ℕ → ℕ) → ℕ → List Link → ℕ
-together k c [] = no_feeder
-together k c (l ∷ ls) = cond (eqb l.to c) (joint (k l.from) (together k c ls)) (together k c ls)
+unfoldable pub jointly : (ℕ → ℕ) → ℕ → List Link → ℕ
+jointly k c [] = no_feeder
+jointly k c (l ∷ ls) = cond (eqb l.to c) (joint (k l.from) (jointly k c ls)) (jointly k c ls)
 
 -- what is told at each location
 pub record LocationsTell (p : Picture) (feeders : List ℕ) : Type 0 where
@@ -47,7 +47,7 @@ pub record LocationsTell (p : Picture) (feeders : List ℕ) : Type 0 where
 -- what is told of each endpoint
 pub record EndpointsTell (p : Picture) (feeders : List ℕ) : Type 0 where
   pub many : length feeders ≡ suc endpoints_max
-  pub same : (c : ℕ) → get_or feeders c no_feeder ≡ together (told p) c p.service_links
+  pub same : (c : ℕ) → get_or feeders c no_feeder ≡ jointly (told p) c p.service_links
 
 -- the weight of the records whose endpoint b alone feeds
 unfoldable pub fed : List ℕ → List Record → ℕ → ℕ

@@ -40,7 +40,7 @@ fn nth_record(records: &[u8], i: usize) -> Record
     let at = i * RECORD_BYTES;
     Record {
         endpoint: usize::from(records[at]),
-        // Kept: two bytes are proved to fit, and `try_from` with `unwrap` says no more; so below.
+        // Kept: two bytes are proved to fit, and `try_from` with `unwrap` says no more. So is a block's number, below.
         weight: bits::bytes(records, at + 1, 2) as u32,
     }
 }
@@ -73,7 +73,7 @@ fn location_feeders(p: &Picture, reached: &Row) -> [u8; LOCATIONS]
 {
     let h = p.header();
     let mut feeders = [NO_FEEDER; LOCATIONS];
-    // Down to the first: so the loop has one count to keep; so below.
+    // Down to the first, here and in the next loop: so each has one count to keep.
     for v in (1..=h.slots).rev() {
         if rows::has(reached, v) {
             feeders[v] = ((v - 1) / h.block_size) as u8;

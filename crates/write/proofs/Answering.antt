@@ -1,4 +1,4 @@
--- What a call that makes a picture answers and leaves, by its faults and the room in its buffer. Assumes nothing.
+-- What a call that fills a buffer answers and leaves, by its faults and the room in its buffer. Assumes nothing.
 use mathlib.Core.Path.{◌≡◌, sym, ap, ◌∙◌}
 use mathlib.Core.List.{List, [], ◌∷◌, ◌++◌, head-eq_of_cons-eq}
 use Prim.Native.Nat.{ℕ, ◌≤◌, ◌<◌}
@@ -35,7 +35,7 @@ module _ (xs : List ℕ) {size : ℕ} {bs buf : List ℕ} where
   pub fills_short : 0 ≡ first xs → length buf < size → Fills (fault xs size buf) size bs buf (Err Buffer) buf
   fills_short z s = refused Buffer (passed_first _ z (tells [] (lt-ltb (length buf) size s)) ∙ first_in [] xs _)
 
-  -- nothing is wrong, and the picture stands in the buffer
+  -- nothing is wrong, and what was to be filled in stands in the buffer
   pub fills_made : {n : ℕ} {out : List ℕ} → 0 ≡ first xs → size ≤ length buf → n ≡ size → out ≡ bs ++ drop size buf → Fills (fault xs size buf) size bs buf (Ok n) out
   unfolding filled first
   fills_made z s e w =
@@ -44,7 +44,7 @@ module _ (xs : List ℕ) {size : ℕ} {bs buf : List ℕ} where
 
 -- ---- from what is answered
 
--- a length that is answered is the picture's, and keeps what bounds that
+-- a length that is answered is that of what was filled in, and keeps what bounds that
 pub fills_most : {k size m : ℕ} {bs buf : List ℕ} {r : Result ℕ Refusal} {out : List ℕ} → Fills k size bs buf r out → (k ≡ 0 → size ≤ m) → (n : ℕ) → r ≡ Ok n → n ≤ m
 unfolding answer_numbers
 fills_most {k} f most n e =

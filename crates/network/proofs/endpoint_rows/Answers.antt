@@ -3,7 +3,7 @@ use mathlib.Core.Path.{◌≡◌, sym, ◌∙◌}
 use native.Mathlib.Omega.{arith}
 use Prim.Native.Nat.{suc, ◌-◌, ◌≤◌}
 use lib.ListN.{set}
-use Rattle.lists.proofs.Filling.{Filled, filled_begun, filled_next}
+use Rattle.lists.proofs.Storing.{Stored, stored_begun, stored_next}
 use Rattle.rows.specs.Rows.{row_words}
 use Rattle.picture.specs.Picture.{picture_of, endpoint_of}
 use Rattle.picture.proofs.Facts.{read_limited, read_endpoints_length}
@@ -26,14 +26,14 @@ protected c = sym c.is_protected-guarded.ensures
 
 -- the endpoint at hand is looked at: its weight is written, and it is marked if it is protected
 looked : (c : Joined-guarded) → let p = picture_of c.args.p.now in
-    Filled (suc endpoints_max) 0 (weight_of p) (set c.loop-c.weights c.loop-c.c c.endpoint_weight-weight.result) (c.loop-c.c - 1)
+    Stored (suc endpoints_max) 0 (weight_of p) (set c.loop-c.weights c.loop-c.c c.endpoint_weight-weight.result) (c.loop-c.c - 1)
     × Above (λ u. (endpoint_of p u).protected) c.if-guarded.protected (c.loop-c.c - 1)
 looked c =
     let l = c.loop-c in
     let some : 1 ≤ l.c = omega arith in
     let most : l.c ≤ endpoints_max = omega (arith, (read_limited _ _ c.header-c.ensures).counts.endpoints_most) in
     let told = protected (goal.at.Joined-guarded c).After-is_protected-guarded in (
-      filled_next _ _ _ l.weights l.c some (omega arith) l.invariant.weighed (weight (goal.at.Joined-guarded c).After-endpoint_weight-weight),
+      stored_next _ _ _ l.weights l.c some (omega arith) l.invariant.weighed (weight (goal.at.Joined-guarded c).After-endpoint_weight-weight),
       elim c.if-guarded.branch [
         | then-guarded w ↦ rw w.protected-is (above_hit _ _ _ l.c some l.invariant.protected (told ∙ w.if-guarded.true) w.add.ensures)
         | else-guarded w ↦ rw w.protected-is (above_miss _ _ l.c some l.invariant.protected (told ∙ w.if-guarded.false))
@@ -45,7 +45,7 @@ loop-c-init c =
     let p = picture_of c.args.p.now in
     let n = read_endpoints_length _ _ c.header-c.ensures in
     record {
-      weighed = rw c.requires (filled_begun _ _ _ _ (λ u l. weight_outside p u (λ i. absurd (omega (arith, n, i.1)))));
+      weighed = rw c.requires (stored_begun _ _ _ _ (λ u l. weight_outside p u (λ i. absurd (omega (arith, n, i.1)))));
       protected = above_begun (λ u. (endpoint_of p u).protected) row_words _ (λ u l. protected_outside p u (λ i. absurd (omega (arith, n, i.1))));
     }
 

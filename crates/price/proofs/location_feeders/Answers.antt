@@ -4,7 +4,7 @@ use native.Mathlib.Omega.{arith}
 use Prim.Native.Nat.{◌-◌, ◌/◌}
 use native.Mathlib.Nat.{div-mul-le_self}
 use Rattle.picture.proofs.Facts.{read_sizes, read_slots_most}
-use Rattle.lists.proofs.Filling.{filled_begun, filled_next, filled_left}
+use Rattle.lists.proofs.Storing.{stored_begun, stored_next, stored_left}
 use Rattle.network.proofs.Blocks.{read_block_size, read_slots}
 use Rattle.network.proofs.Candidates.{block_below}
 use Rattle.price.proofs.Locations.{row_hit, row_miss, row_past, locations_told}
@@ -14,7 +14,7 @@ use Rattle.price.proofs.location_feeders.Goals.{then-has, else-has}
 pub loop-v-init : goal.loop-v-init
 loop-v-init c =
     let r = c.header-h.ensures in
-    filled_begun _ _ _ _ (λ u l. row_miss _ _ u (row_past c.requires u (omega (arith, read_slots _ _ r))))
+    stored_begun _ _ _ _ (λ u l. row_miss _ _ u (row_past c.requires u (omega (arith, read_slots _ _ r))))
 
 pub has-requires : goal.has-requires
 has-requires c = omega (arith, read_slots_most _ _ c.header-h.ensures)
@@ -36,8 +36,8 @@ pub loop-v-preserved : goal.loop-v-preserved
 loop-v-preserved c =
     let l = c.loop-v in
     elim c.if-has.branch [
-      | then-has w ↦ rw w.feeders-is (filled_next _ _ _ l.feeders l.v (omega arith) (omega (arith, read_slots_most _ _ c.header-h.ensures)) l.invariant (row_hit _ _ l.v (sym c.has.ensures ∙ w.if-has.true)))
-      | else-has w ↦ rw w.feeders-is (filled_left _ _ _ l.feeders l.v (omega arith) l.invariant (row_miss _ _ l.v (sym c.has.ensures ∙ w.if-has.false)))
+      | then-has w ↦ rw w.feeders-is (stored_next _ _ _ l.feeders l.v (omega arith) (omega (arith, read_slots_most _ _ c.header-h.ensures)) l.invariant (row_hit _ _ l.v (sym c.has.ensures ∙ w.if-has.true)))
+      | else-has w ↦ rw w.feeders-is (stored_left _ _ _ l.feeders l.v (omega arith) l.invariant (row_miss _ _ l.v (sym c.has.ensures ∙ w.if-has.false)))
     ]
 
 pub returns : goal.returns
