@@ -29,6 +29,7 @@ module _ (feeders : List ℕ) (rs : List Record) where
   abbrev pub feeder : Record → ℕ
   feeder r = get_or feeders r.endpoint no_feeder
 
+  -- what two lists of records give a block
   fed_both : (xs ys : List Record) (b : ℕ) → fed feeders (xs ++ ys) b ≡ fed feeders xs b + fed feeders ys b
   unfolding fed sum
   fed_both [] ys b = omega arith

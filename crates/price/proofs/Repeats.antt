@@ -36,6 +36,7 @@ module _ {p q : Picture} (r : Repeated p q) where
       (λ e. e ∙ sym (flat_right q (record { start = λ a b t. (right_flat p e).start a b (subst (λ (j : ℕ → ℕ → Bool). T (j a b)) (sym (repeated_links r)) t) })))
       (λ n. flat_told p n ∙ sym (flat_told q (λ e. n (flat_right p (record { start = λ a b t. (right_flat q e).start a b (subst (λ (j : ℕ → ℕ → Bool). T (j a b)) (repeated_links r) t) })))))
 
+  -- the blocks cut the same endpoints, and these weigh the same by the same records
   counters_same : (rs : List Record) → counters p rs ≡ counters q rs
   unfolding counters
   counters_same rs =
@@ -43,6 +44,7 @@ module _ {p q : Picture} (r : Repeated p q) where
       let now : List Bool = repeated_marks r i (same_held r i) in
       map (λ b. same_where r i (traffic rs) (same_cut r i now (repeated_marks r i (same_left r i b)))) (range 0 (same_blocks r i)) ++ replicate (blocks_max - same_blocks r i) 0
 
+-- so the number of the first fault is the same, and so are the counters
 pub repeated_pricing : (bs bs' records : List ℕ) → picture_fault bs ≡ 0 → picture_fault bs' ≡ 0 → Repeated (picture_of bs) (picture_of bs') → pricing bs records ≡ pricing bs' records
 unfolding pricing price_fault
 repeated_pricing bs bs' records ok ok' r =
