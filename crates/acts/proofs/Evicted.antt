@@ -1,4 +1,4 @@
--- Evicting a block takes its loss from the served weight, and nothing else; free cuts where evict would. Assumes nothing.
+-- Evicting a block takes its loss from the served weight, and nothing else; what is held after a free is what is held after an evict. Assumes nothing.
 use mathlib.Core.Path.{◌≡◌, refl, sym, ap, ap₂, ◌∙◌, fun_ext}
 use mathlib.Core.Bool.{Bool, true, false, not, ◌&&◌, cond, and-true, and-false}
 use mathlib.Core.List.{List}
@@ -9,7 +9,7 @@ use lib.Dec.{eqb}
 use Rattle.graph.specs.Rounds.{reached_in}
 use Rattle.picture.specs.Picture.{Picture, Slot, picture_of, slot_of, endpoint_of}
 use Rattle.picture.specs.Faults.{picture_fault}
-use Rattle.network.specs.Words.{endpoint_count, block_count, in_block, is_held, held_without, joins, weight_of, Named}
+use Rattle.network.specs.Words.{endpoint_count, block_count, in_block, is_held, outside, held_without, joins, weight_of, Named}
 use Rattle.network.specs.Tests.{marks, served, sum_where, served_weight, weighed}
 use Rattle.network.proofs.Named.{accepted_named}
 use Rattle.network.proofs.Evicting.{loss_off}
@@ -47,7 +47,7 @@ module _ {a : Act} (n : Empties a) (p : Picture) (b : ℕ) where
 
   -- such an act leaves held what is held without the block
   pub emptied_held : (v : ℕ) → is_held (act_on a p b) v ≡ held_without p b v
-  unfolding is_held held_without slot_after
+  unfolding is_held outside slot_after
   emptied_held zero = sym (ap not (origin_apart p b))
   emptied_held (suc i) = ap (λ (s : Slot). eqb s.state 0) (slot_acted a p b (suc i)) ∙ held_state (in_block p b (suc i)) (slot_of p (suc i)).state
 
@@ -70,7 +70,7 @@ module _ (p : Picture) (b : ℕ) where
   pub evicted_held : (v : ℕ) → is_held (act_on Evict p b) v ≡ held_without p b v
   evicted_held = emptied_held evict_empties p b
 
-  -- free cuts where evict would
+  -- a free leaves held what an evict would
   pub freed_held : (v : ℕ) → is_held (act_on Free p b) v ≡ held_without p b v
   freed_held = emptied_held free_empties p b
 

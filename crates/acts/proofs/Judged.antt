@@ -1,15 +1,15 @@
 -- An act's number is that of the first rule that is broken, and an act is done exactly where every rule is kept. Assumes nothing.
 use mathlib.Core.Path.{◌≡◌, refl}
-use mathlib.Core.Bool.{not, ◌&&◌}
-use mathlib.Core.Logic.{◌≢◌}
+use mathlib.Core.Bool.{Bool, not, ◌&&◌}
+use mathlib.Core.Logic.{◌≢◌, ⊎_elim}
 use mathlib.Core.List.{List, [], ◌∷◌}
 use Prim.Native.Nat.{ℕ, ◌+◌, ◌*◌, ◌<◌}
 use native.Mathlib.Omega.{arith}
 use borrow.Author.Tests.{eq-eqb, ne_eqb}
 use lib.Dec.{T, eqb, leb, ltb, T_not, not_T, eqb→eq, leb→le, nleb→lt, ltb→lt, lt→ltb}
-use Rattle.lists.specs.Lists.{range, on, any}
+use Rattle.lists.specs.Lists.{range, any}
 use Rattle.lists.specs.Rules.{Rule, Judged, AllHold, more, none}
-use Rattle.lists.proofs.Tests.{and_T, T_and, eq_T}
+use Rattle.lists.proofs.Tests.{and_T, T_and, or_T, not_or, eq_T}
 use Rattle.lists.proofs.Ranges.{any_range, range_any}
 use Rattle.lists.proofs.Faults.{on_zero, on_true, on_told, judge, judge_test, judge_right, judge_none, Numbered, judged_all, all_judged}
 use Rattle.lists.proofs.Rules.{judged_then, numbered_both, hold_left, hold_right, hold_both}
@@ -17,18 +17,17 @@ use Rattle.picture.specs.Picture.{Picture, picture_of, slot_of}
 use Rattle.picture.specs.Faults.{picture_fault}
 use Rattle.picture.specs.Rules.{rules}
 use Rattle.picture.proofs.Accepted.{picture_judged, numbered}
-use Rattle.network.specs.Words.{slot_count, block_count, in_block, Admissible, Named}
-use Rattle.network.specs.Tests.{weighed}
+use Rattle.network.specs.Words.{slot_count, block_count, in_block, is_held, outside, Named}
 use Rattle.network.proofs.Named.{accepted_named}
 use Rattle.network.proofs.Candidates.{near_slot}
-use Rattle.network.proofs.Weights.{mark_protected, protected_mark}
+use Rattle.network.proofs.Weights.{cut_protected_loses, loses_cut_protected}
 use Rattle.weigh.specs.Weighing.{block_fault}
 use Rattle.acts.specs.declared.Act.{Act}
 use Rattle.acts.specs.declared.Act.TheVariants.{Evict, Reload, Free}
-use Rattle.acts.specs.Faults.{changes, cut_fault, near_fault, act_fault}
+use Rattle.acts.specs.Faults.{changes, cuts_over, cut_fault, near_fault, act_fault}
 use Rattle.acts.specs.Answers.{act_bytes}
-use Rattle.acts.specs.Acts.{after, block_slots, recoverable_near, near_after, done_bytes}
-use Rattle.acts.specs.Rules.{Changes, Spares, Crowds, Leaves, act_rules}
+use Rattle.acts.specs.Acts.{after, held_or_recoverable, block_slots, recoverable_near, near_after, done_bytes}
+use Rattle.acts.specs.Rules.{Changes, SparesOver, Spares, Crowds, Leaves, act_rules}
 use Rattle.acts.proofs.Slots.{in_block_lem, block_in_lem}
 
 module _ (p : Picture) (b : ℕ) where
@@ -76,23 +75,30 @@ module _ (p : Picture) (b : ℕ) where
   -- ---- and so do the numbers
 
   module _ (n : Named p) where
-    mark_spares : on (eqb (weighed p b).mark 1) 10 ≡ 0 → Admissible p b
-    mark_spares e k = T_not (eqb (weighed p b).mark 1) (on_zero (eqb (weighed p b).mark 1) 9 e) (eq_T _ _ (protected_mark n k))
+    -- over any locations
+    over_spares : (held : ℕ → Bool) → T (not (cuts_over held p b)) → SparesOver held p b
+    unfolding cuts_over
+    over_spares held t k = T_not (cuts_over held p b) t (loses_cut_protected n k)
 
-    mark_cuts : on (eqb (weighed p b).mark 1) 10 ≢ 0 → ¬ Admissible p b × (on (eqb (weighed p b).mark 1) 10 ≡ 10)
-    mark_cuts z = (λ s. s (mark_protected n b (eqb→eq _ _ (on_true (eqb (weighed p b).mark 1) 10 z))), on_told (eqb (weighed p b).mark 1) 10 z)
+    over_breaks : (held : ℕ → Bool) → T (cuts_over held p b) → ¬ SparesOver held p b
+    unfolding cuts_over
+    over_breaks held t s = s (cut_protected_loses n held (outside p b held) t)
 
     cut_spares : (a : Act) → cut_fault a p b ≡ 0 → Spares a p b
     unfolding cut_fault
-    cut_spares Evict e = mark_spares e
+    cut_spares Evict e = over_spares (is_held p) (on_zero _ 9 e)
     cut_spares Reload e = tt
-    cut_spares Free e = mark_spares e
+    cut_spares Free e =
+        let t = not_or (cuts_over (is_held p) p b) (cuts_over (held_or_recoverable p) p b) (on_zero _ 9 e) in
+        (over_spares (is_held p) t.0, over_spares (held_or_recoverable p) t.1)
 
     cut_breaks : (a : Act) → cut_fault a p b ≢ 0 → ¬ Spares a p b × (cut_fault a p b ≡ 10)
     unfolding cut_fault
-    cut_breaks Evict z = mark_cuts z
+    cut_breaks Evict z = (over_breaks (is_held p) (on_true _ 10 z), on_told _ 10 z)
     cut_breaks Reload z = absurd (z refl)
-    cut_breaks Free z = mark_cuts z
+    cut_breaks Free z =
+        let t = or_T (cuts_over (is_held p) p b) (cuts_over (held_or_recoverable p) p b) (on_true _ 10 z) in
+        (λ s. ⊎_elim (λ x. over_breaks (is_held p) x s.0) (λ x. over_breaks (held_or_recoverable p) x s.1) t, on_told _ 10 z)
 
   near_leaves : (a : Act) → near_fault a p b ≡ 0 → Leaves a p b
   unfolding near_fault

@@ -4,8 +4,10 @@ pub mod Slots
 pub mod Acted
 pub mod Evicted
 pub mod Reloaded
+pub mod Unfreed
 pub mod Judged
 pub mod Spared
+pub mod Cutting
 pub mod Choosable
 pub mod Headers
 pub mod Putting

@@ -10,14 +10,15 @@ use lib.ListN.{length}
 use Rattle.lists.specs.Lists.{range, on, first, any, filter}
 use Rattle.picture.specs.Picture.{Picture, picture_of}
 use Rattle.picture.specs.Faults.{picture_fault}
+use Rattle.network.specs.Words.{outside}
 use Rattle.network.specs.Tests.{is_near_held}
 use Rattle.network.specs.Repeats.{Repeated}
-use Rattle.network.proofs.Repeats.{same_slot, same_slots, same_blocks, same_block, same_held, repeated_weighed}
+use Rattle.network.proofs.Repeats.{same_slot, same_slots, same_blocks, same_block, same_held, repeated_marks, same_protected}
 use Rattle.weigh.specs.Weighing.{block_fault}
 use Rattle.acts.specs.declared.Act.{Act}
 use Rattle.acts.specs.declared.Act.TheVariants.{Evict, Reload, Free}
-use Rattle.acts.specs.Acts.{after, block_slots, recoverable_near, near_after, slot_after, act_on}
-use Rattle.acts.specs.Faults.{changes, cut_fault, near_fault, act_fault}
+use Rattle.acts.specs.Acts.{after, held_or_recoverable, block_slots, recoverable_near, near_after, slot_after, act_on}
+use Rattle.acts.specs.Faults.{changes, cuts_over, cut_fault, near_fault, act_fault}
 use Rattle.acts.specs.Answers.{act_bytes}
 use Rattle.acts.proofs.Acted.{acted_picture}
 use Rattle.acts.proofs.Judged.{done_doable, done_bytes_lem, refused_bytes}
@@ -27,11 +28,19 @@ module _ {p q : Picture} (r : Repeated p q) (b : ℕ) where
   unfolding changes block_slots
   changes_same a = λ i. any (λ v. not (eqb (after a (same_slot r i v).state) (same_slot r i v).state)) (range (b * r.block_size i + 1) (r.block_size i))
 
+  over_same : {held held' : ℕ → Bool} → held ≡ held' → cuts_over held p b ≡ cuts_over held' q b
+  unfolding cuts_over outside
+  over_same e = λ i. same_protected r i (repeated_marks r i (e i)) (repeated_marks r i (λ v. e i v && not (same_block r i b v)))
+
+  unfreed_same : held_or_recoverable p ≡ held_or_recoverable q
+  unfolding held_or_recoverable
+  unfreed_same = λ i v. same_held r i v || eqb (same_slot r i v).state 1
+
   cut_same : (a : Act) → cut_fault a p b ≡ cut_fault a q b
   unfolding cut_fault
-  cut_same Evict = λ i. on (eqb (repeated_weighed r i b).mark 1) 10
+  cut_same Evict = λ i. on (over_same (same_held r) i) 10
   cut_same Reload = refl
-  cut_same Free = λ i. on (eqb (repeated_weighed r i b).mark 1) 10
+  cut_same Free = λ i. on (over_same (same_held r) i || over_same unfreed_same i) 10
 
   recoverable_same : recoverable_near p b ≡ recoverable_near q b
   unfolding recoverable_near

@@ -5,7 +5,7 @@ use Rattle.lists.specs.Lists.{range, sum, filter}
 use Rattle.picture.specs.declared.Edition.{Edition}
 use Rattle.picture.specs.Layout.{edition_of, state_bits, slot_widths, slots_at}
 use Rattle.picture.specs.Picture.{Picture, Slot, picture_of, slot_of}
-use Rattle.network.specs.Words.{slot_count, in_block}
+use Rattle.network.specs.Words.{slot_count, in_block, is_held}
 use Rattle.network.specs.Tests.{is_near_held}
 use Rattle.acts.specs.declared.Act.{Act}
 use Rattle.acts.specs.declared.Act.TheVariants.{Evict, Reload, Free}
@@ -16,6 +16,10 @@ unfoldable pub after : Act → ℕ → ℕ
 after Evict s = cond (eqb s 0) 1 s
 after Reload s = cond (eqb s 1) 0 s
 after Free s = 2
+
+-- held or recoverable, as 02, C-19, has it: a location that holds the bundle, or can get it back. What is freed cannot
+unfoldable pub held_or_recoverable : Picture → ℕ → Bool
+held_or_recoverable p v = is_held p v || eqb (slot_of p v).state 1
 
 -- the slots of block b
 unfoldable pub block_slots : Picture → ℕ → List ℕ

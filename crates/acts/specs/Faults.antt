@@ -1,24 +1,28 @@
 -- The number of an act's first fault. Assumes nothing.
-use Rattle.std.specs.Prelude.{Bool, not, ◌&&◌, List, [], ◌∷◌, ℕ, eqb, ltb}
+use Rattle.std.specs.Prelude.{Bool, not, ◌&&◌, ◌||◌, List, [], ◌∷◌, ℕ, eqb, ltb}
 use Rattle.lists.specs.Lists.{range, on, first, any}
 use Rattle.picture.specs.Picture.{Picture, picture_of, slot_of}
 use Rattle.picture.specs.Faults.{picture_fault}
-use Rattle.network.specs.Words.{slot_count}
-use Rattle.network.specs.Tests.{weighed}
+use Rattle.network.specs.Words.{slot_count, is_held, outside}
+use Rattle.network.specs.Tests.{marks, cut_protected}
 use Rattle.weigh.specs.Weighing.{block_fault}
 use Rattle.acts.specs.declared.Act.{Act}
 use Rattle.acts.specs.declared.Act.TheVariants.{Evict, Reload, Free}
-use Rattle.acts.specs.Acts.{after, block_slots, recoverable_near, near_after}
+use Rattle.acts.specs.Acts.{after, held_or_recoverable, block_slots, recoverable_near, near_after}
 
 -- the act changes a slot: 11 where it does not
 unfoldable pub changes : Act → Picture → ℕ → Bool
 changes a p b = any (λ v. not (eqb (after a (slot_of p v).state) (slot_of p v).state)) (block_slots p b)
 
--- 10: evict or free cuts a protected endpoint. Free counts as a cut exactly where evict would
+-- without the slots of block b a protected endpoint loses all its chains through the locations of `held`
+unfoldable pub cuts_over : (ℕ → Bool) → Picture → ℕ → Bool
+cuts_over held p b = cut_protected p (marks p held) (marks p (outside p b held))
+
+-- 10: evict is judged over what is held, free over that and over what is held or recoverable
 unfoldable pub cut_fault : Act → Picture → ℕ → ℕ
-cut_fault Evict p b = on (eqb (weighed p b).mark 1) 10
+cut_fault Evict p b = on (cuts_over (is_held p) p b) 10
 cut_fault Reload p b = 0
-cut_fault Free p b = on (eqb (weighed p b).mark 1) 10
+cut_fault Free p b = on (cuts_over (is_held p) p b || cuts_over (held_or_recoverable p) p b) 10
 
 -- 12: reload adds a held near slot and more than κ are then held
 unfoldable pub near_fault : Act → Picture → ℕ → ℕ

@@ -1,12 +1,12 @@
 -- The rules that an act is judged by, in their order. Document 01, "Checking and evicting". Assumes nothing.
-use Rattle.std.specs.Prelude.{List, [], ◌∷◌, ◌++◌, ◌≡◌, ◌≢◌, ℕ, ◌<◌, T}
+use Rattle.std.specs.Prelude.{Bool, List, [], ◌∷◌, ◌++◌, ◌≡◌, ◌≢◌, ℕ, ◌<◌, T}
 use Rattle.lists.specs.Rules.{Rule}
 use Rattle.picture.specs.Picture.{Picture, picture_of, slot_of}
 use Rattle.picture.specs.Rules.{rules}
-use Rattle.network.specs.Words.{block_count, in_block, Admissible}
+use Rattle.network.specs.Words.{block_count, in_block, is_held, outside, LosesProtected}
 use Rattle.acts.specs.declared.Act.{Act}
 use Rattle.acts.specs.declared.Act.TheVariants.{Evict, Reload, Free}
-use Rattle.acts.specs.Acts.{after, near_after}
+use Rattle.acts.specs.Acts.{after, held_or_recoverable, near_after}
 
 -- the act changes a slot of the block
 pub record Changes (a : Act) (p : Picture) (b : ℕ) : Type 0 where
@@ -14,11 +14,16 @@ pub record Changes (a : Act) (p : Picture) (b : ℕ) : Type 0 where
   pub inside : T (in_block p b slot)
   pub other : after a (slot_of p slot).state ≢ (slot_of p slot).state
 
--- not so: "evict or free cuts a protected cab". Reload cuts nothing
+-- without the slots of block b no protected endpoint loses all its chains through the locations of `held`. With the held ones, b is admissible
+abbrev pub SparesOver : (ℕ → Bool) → Picture → ℕ → Type 0
+SparesOver held p b = ¬ LosesProtected p held (outside p b held)
+
+-- not so: "evict or free cuts a protected cab". "So free is also judged over chains of held or recoverable slots" (02, C-19): what could have
+-- come back is gone for good. Reload cuts nothing
 abbrev pub Spares : Act → Picture → ℕ → Type 0
-Spares Evict p b = Admissible p b
+Spares Evict p b = SparesOver (is_held p) p b
 Spares Reload p b = Unit {0}
-Spares Free p b = Admissible p b
+Spares Free p b = SparesOver (is_held p) p b × SparesOver (held_or_recoverable p) p b
 
 -- "reload adds a held near slot and more than κ are then held"
 pub record Crowds (p : Picture) (b : ℕ) : Type 0 where

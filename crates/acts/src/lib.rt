@@ -1,19 +1,22 @@
 // The acts on a block of a lent picture: evict, reload and free.
 #![tactic(auto)]
 
-ghost use Rattle.std.specs.Prelude.{◌≡◌, ◌&&◌, ◌||◌, not, [], ◌≤◌, ◌<◌, eqb};
+ghost use Rattle.std.specs.Prelude.{Bool, ℕ, ◌≡◌, ◌&&◌, ◌||◌, not, [], ◌≤◌, ◌<◌, eqb};
 ghost use Rattle.lists.specs.Lists.{range, any, outcome};
 ghost use Rattle.picture.specs.Refusals.{fault_of};
 ghost use Rattle.picture.specs.Layout.{state_number};
 ghost use Rattle.picture.specs.Picture.{header_of, picture_of, slot_of};
 ghost use Rattle.picture.specs.Inner.{Read};
 ghost use Rattle.network.specs.Words.{slot_count, block_count};
+ghost use Rattle.network.specs.Rows.{SlotRowOf, TablesOf};
 ghost use Rattle.network.specs.Tests.{is_near_held};
-ghost use Rattle.acts.specs.Faults.{changes, cut_fault, near_fault, act_fault};
+ghost use Rattle.acts.specs.Faults.{changes, cuts_over, cut_fault, near_fault, act_fault};
 ghost use Rattle.acts.specs.Answers.{act_bytes, acting, acting_numbers};
-ghost use Rattle.acts.specs.Acts.{after, recoverable_near, near_after, done_bytes};
+ghost use Rattle.acts.specs.Acts.{after, held_or_recoverable, recoverable_near, near_after, done_bytes};
 
+use network::Tables;
 use picture::{Header, Picture, Refusal, State};
+use rows::{Row, WORDS};
 
 // What is done to a block.
 #[derive(Clone, Copy)]
@@ -108,29 +111,85 @@ fn near_after(p: &Picture, b: usize) -> usize
         .count()
 }
 
-// Giving up a block cuts no protected endpoint.
-#[tactic(auto, unfolding(crate::specs::Faults::cut_fault, lists::specs::Lists::on, weigh::specs::Weighing::weights_of))]
-fn judge_block_cut(p: &Picture, b: usize) -> Result<(), Refusal>
+// The slots that are held or recoverable.
+fn unfreed_slots(p: &Picture) -> Row
+    ensures { SlotRowOf (picture_of p.now) (held_or_recoverable (picture_of p.now)) result }
+{
+    let mut slots = [0u64; WORDS];
+    // Down to the first: so the loop has one count to keep.
+    for v in (1..=p.header().slots).rev() {
+        if p.slot_state(v) != State::Freed {
+            rows::add(&mut slots, v);
+        }
+    }
+    slots
+}
+
+// Whether, without the slots of block b, a protected endpoint loses all its chains through these slots.
+fn cuts_over(p: &Picture, tables: &Tables, slots: Row, b: usize) -> bool
+    requires block { b < block_count (picture_of p.now) }
+    requires tables { TablesOf (picture_of p.now) tables.now }
+    requires slots { (held : ℕ → Bool) × SlotRowOf (picture_of p.now) held slots }
+    ensures { (held : ℕ → Bool) → SlotRowOf (picture_of p.now) held slots → result ≡ cuts_over held (picture_of p.now) b }
+{
+    let h = p.header();
+    let n = h.slots;
+    let words = rows::words_for(n);
+    let block = network::block_range(h.block_size, b);
+    let before = graph::walk(tables.links, slots, n);
+    let after = graph::walk_without(tables.links, slots, n, block);
+    let lost = weigh::lost_between(
+        &tables.services,
+        &tables.weights,
+        tables.protected,
+        h.endpoints,
+        before.reached,
+        after.reached,
+        words,
+    );
+    lost.mark == 1
+}
+
+// An evict of block b cuts no protected endpoint.
+#[tactic(auto, unfolding(crate::specs::Faults::cut_fault, lists::specs::Lists::on))]
+fn judge_evict(p: &Picture, b: usize) -> Result<(), Refusal>
     requires { b < block_count (picture_of p.now) }
     ensures { fault_of result ≡ cut_fault Act.Evict (picture_of p.now) b }
 {
-    if weigh::weigh_block(p, b).mark == 1 {
+    let mut tables = Tables::empty();
+    tables.fill(p);
+    let held = network::slot_rows(p).held;
+    if cuts_over(p, &tables, held, b) {
         return Err(Refusal::Protected);
     }
     Ok(())
 }
 
-// The same of an act: a free cuts where an evict would, and a reload cuts nothing.
-// Kept: with one arm for both weighing is compiled into the act, and a reload then takes 33,272 bytes of stack in place of 4,520.
+// Nor does a free, and none loses the last way that could have come back.
+#[tactic(auto, unfolding(crate::specs::Faults::cut_fault, lists::specs::Lists::on))]
+fn judge_free(p: &Picture, b: usize) -> Result<(), Refusal>
+    requires { b < block_count (picture_of p.now) }
+    ensures { fault_of result ≡ cut_fault Act.Free (picture_of p.now) b }
+{
+    let mut tables = Tables::empty();
+    tables.fill(p);
+    let held = network::slot_rows(p).held;
+    if cuts_over(p, &tables, held, b) || cuts_over(p, &tables, unfreed_slots(p), b) {
+        return Err(Refusal::Protected);
+    }
+    Ok(())
+}
+
+// What an act on block b cuts is no protected endpoint. A reload cuts nothing.
 #[tactic(auto, unfolding(crate::specs::Faults::cut_fault))]
 fn judge_cut(p: &Picture, a: Act, b: usize) -> Result<(), Refusal>
     requires { b < block_count (picture_of p.now) }
     ensures { fault_of result ≡ cut_fault a (picture_of p.now) b }
 {
     match a {
-        Act::Evict => judge_block_cut(p, b),
+        Act::Evict => judge_evict(p, b),
         Act::Reload => Ok(()),
-        Act::Free => judge_block_cut(p, b),
+        Act::Free => judge_free(p, b),
     }
 }
 

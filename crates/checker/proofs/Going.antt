@@ -227,7 +227,7 @@ module _ {x : Given} (t : Ready x) where
   table_narrow row within = rw t.few_words (narrow_for x.h.slots row t.few_slots within)
 
   pub held_narrow : Narrow x.words x.held
-  held_narrow = table_narrow x.held (λ v m. omega (arith, t.slots.slots.within v m, table_slots))
+  held_narrow = table_narrow x.held (λ v m. omega (arith, t.slots.held.only.within v m, table_slots))
 
   -- where the forest of a part starts: at a whole byte, from which the evidence has room for it
   table_starts : (k : ℕ) → start_of x k / 8 * 8 ≡ start_of x k

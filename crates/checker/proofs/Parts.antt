@@ -106,8 +106,8 @@ module _ (bs ev : List ℕ) {h : Header} (r : Read bs h) where
     pub held_found : {row near : List ℕ} → SlotRowsOf p row near → (k : ℕ) → k ≤ length (candidates p)
         → (v : ℕ) → without (evicted_in p.block_size (section_in e n ev (k - 1)).block k) (held_in row) v ≡ held_at p k v
     unfolding held_at evicted_in
-    held_found s zero l v = now_held s v
-    held_found s (suc i) l v = rw (eqb-suc-zero i, sub-one (suc i), formed_block i l) (left_held s (block_at p i) v)
+    held_found s zero l v = now_held s.held v
+    held_found s (suc i) l v = rw (eqb-suc-zero i, sub-one (suc i), formed_block i l) (left_held s.held (block_at p i) v)
 
   pub stated_found : (k : ℕ) {w m : ℕ} → w ≡ (stated_at p k).loss → (1 ≤ k → m ≡ (stated_at p k).mark) → stated_test e n ev k w m ≡ stated_right k
   unfolding stated_test

@@ -77,7 +77,7 @@ module _ {bs : List ℕ} {h : Header} {t : Weighing} (r : WeighRows bs h t) wher
     cost = record { block = b; loss = gone.weight; cuts = gone.count; mark = gone.mark }
 
     rest : Walked (joins p.links) (held_without p b) (marked f.reached) f.parent f.depth
-    rest = left_walked r.slots r.tables.links b (read_block_size bs h r.read) w
+    rest = left_walked r.slots.held r.tables.links b (read_block_size bs h r.read) w
 
     pub lost_cost : cost ≡ weighed (picture_of bs) b
     lost_cost =

@@ -13,7 +13,7 @@ use Rattle.acts.specs.Faults.{act_fault}
 use Rattle.acts.proofs.Slots.{near_acted, freed_acted}
 use Rattle.acts.proofs.Acted.{acted_header, acted_picture, acted_accepted}
 use Rattle.acts.proofs.Judged.{Doable, done_doable, done_bytes_lem, refused_bytes}
-use Rattle.acts.proofs.Spared.{spared_serves}
+use Rattle.acts.proofs.Spared.{spared_serves, spared_returns}
 use Rattle.demands.specs.Calls.{Call, call_bytes, bytes_after, Keeps, CallsKeep}
 
 -- ---- what is kept goes from call to call
@@ -28,6 +28,7 @@ keeps_own bs ok =
       links = refl;
       service_links = refl;
       served = λ c t s. s;
+      returning = λ c t s. s;
       freed = λ v e. e;
     }
 
@@ -42,6 +43,7 @@ keeps_then k l =
       links = l.links ∙ k.links;
       service_links = l.service_links ∙ k.service_links;
       served = λ c t s. l.served c (rw k.endpoints t) (k.served c t s);
+      returning = λ c t s. l.returning c (rw k.endpoints t) (k.returning c t s);
       freed = λ v e. l.freed v (k.freed v e);
     }
 
@@ -54,6 +56,7 @@ done_keeps a bs b d =
     let there = d.there in
     let p = picture_of bs in
     let same = acted_picture a bs b ok there in
+    let named = accepted_named bs ok in
     record {
       accepted = acted_accepted a bs b ok there;
       sizes = acted_header a bs b ok there;
@@ -61,7 +64,8 @@ done_keeps a bs b d =
       endpoints = rw same (unfold act_on in refl);
       links = rw same (unfold act_on in refl);
       service_links = rw same (unfold act_on in refl);
-      served = λ c t s. rw same (spared_serves p b c (accepted_named bs ok) t s a d.spares);
+      served = λ c t s. rw same (spared_serves p b c named t a d.spares s);
+      returning = λ c t s. rw same (spared_returns p b c named t a d.spares s);
       freed = λ v e. rw same (freed_acted a p b v e);
     }
 

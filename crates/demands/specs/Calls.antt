@@ -1,10 +1,12 @@
 -- Lists of calls of the acts. Document 02, C-15: "For every list of evict, reload and free calls on an accepted picture, refused ones among
--- them, each protected cab served before the list is served after it. A slot freed once is freed after every longer list too". Assumes nothing.
+-- them, each protected cab served before the list is served after it. A slot freed once is freed after every longer list too". And C-19, of such
+-- lists: "a protected cab with such a chain at the start has one at the end", a chain of held or recoverable slots. Assumes nothing.
 use Rattle.std.specs.Prelude.{List, [], ◌∷◌, ◌++◌, ◌≡◌, ℕ, T}
 use Rattle.picture.specs.Picture.{header_of, picture_of, slot_of, endpoint_of}
 use Rattle.picture.specs.Faults.{picture_fault}
 use Rattle.network.specs.Words.{is_held, Served}
 use Rattle.acts.specs.declared.Act.{Act}
+use Rattle.acts.specs.Acts.{held_or_recoverable}
 use Rattle.acts.specs.Answers.{act_bytes}
 
 -- a call of a list: an act, and any number for its block
@@ -37,6 +39,9 @@ pub record Keeps (earlier later : List ℕ) : Type 0 where
   -- "each protected cab served before the list is served after it"
   pub served : (c : ℕ) → T (endpoint_of (picture_of earlier) c).protected → Served (picture_of earlier) (is_held (picture_of earlier)) c
       → Served (picture_of later) (is_held (picture_of later)) c
+  -- "a protected cab with such a chain at the start has one at the end"
+  pub returning : (c : ℕ) → T (endpoint_of (picture_of earlier) c).protected → Served (picture_of earlier) (held_or_recoverable (picture_of earlier)) c
+      → Served (picture_of later) (held_or_recoverable (picture_of later)) c
   -- "A slot freed once is freed after every longer list too"
   pub freed : (v : ℕ) → (slot_of (picture_of earlier) v).state ≡ 2 → (slot_of (picture_of later) v).state ≡ 2
 

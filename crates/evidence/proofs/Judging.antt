@@ -92,7 +92,7 @@ module _ (e : Edition) (p : Picture) (ev : List ℕ) (i : ℕ) (w : Cost) where
 module _ {p : Picture} (n : Named p) (e : Edition) (ev : List ℕ) (i b : ℕ) where
   pub right_numbers : (section_in e (slot_count p) ev i).loss ≡ (weighed p b).loss → (section_in e (slot_count p) ev i).mark ≡ (weighed p b).mark → SectionCost e p ev i b
   right_numbers l m =
-      record { loss = rw l (loss_weight n b); marked = λ o. mark_protected n b (sym m ∙ o); unmarked = λ k. m ∙ protected_mark n k }
+      record { loss = rw l (loss_weight n b); marked = λ o. mark_protected n b (sym m ∙ o); unmarked = λ k. m ∙ protected_mark n b k }
 
   -- a mark over 1 is a fault of the form
   pub numbers_right : (section_in e (slot_count p) ev i).mark ≤ 1 → SectionCost e p ev i b
@@ -102,7 +102,7 @@ module _ {p : Picture} (n : Named p) (e : Edition) (ev : List ℕ) (i b : ℕ) w
     by_cases
         (ℕ_discrete (weighed p b).mark 1)
         (λ o. s.unmarked (mark_protected n b o) ∙ sym o)
-        (λ x. by_cases (ℕ_discrete (section_in e (slot_count p) ev i).mark 1) (λ o. o ∙ sym (protected_mark n (s.marked o))) (λ y. omega (arith, mark_le p b))),
+        (λ x. by_cases (ℕ_discrete (section_in e (slot_count p) ev i).mark 1) (λ o. o ∙ sym (protected_mark n b (s.marked o))) (λ y. omega (arith, mark_le p b))),
   )
 
 -- ---- 16: the verdict

@@ -58,7 +58,7 @@ module _ (p : Picture) where
 
 module _ {p : Picture} (n : Named p) (b : ℕ) where
   pub clear_admissible : (weighed p b).mark ≡ 0 → Admissible p b
-  clear_admissible z k = absurd (omega (arith, protected_mark n k))
+  clear_admissible z k = absurd (omega (arith, protected_mark n b k))
 
   pub marked_protected : (weighed p b).mark ≢ 0 → CutsProtected p b
   marked_protected m = mark_protected n b (let some : 1 ≤ (weighed p b).mark = omega arith in omega (arith, mark_le p b))

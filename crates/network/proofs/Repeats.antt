@@ -15,8 +15,8 @@ use Rattle.graph.specs.Rounds.{reached_in}
 use Rattle.picture.specs.declared.Link.{Link}
 use Rattle.picture.specs.Picture.{Slot, Endpoint, Picture, slot_of, endpoint_of}
 use Rattle.picture.specs.Rules.{no_link}
-use Rattle.network.specs.Words.{slot_count, endpoint_count, block_count, in_block, is_held, held_without, joins, weight_of, Served, Cuts, Sum, ServedWeight, Loss, CutCount, CutsProtected, Candidate}
-use Rattle.network.specs.Tests.{marks, served, cut, sum_where, served_weight, weighed, is_near_held, is_candidate, candidates}
+use Rattle.network.specs.Words.{slot_count, endpoint_count, block_count, in_block, is_held, outside, held_without, joins, weight_of, Served, Loses, Cuts, Sum, ServedWeight, Loss, CutCount, LosesProtected, CutsProtected, Candidate}
+use Rattle.network.specs.Tests.{marks, served, cut, cut_protected, sum_where, served_weight, weighed, is_near_held, is_candidate, candidates}
 use Rattle.network.specs.Repeats.{Repeats, same, again, Repeated}
 use Rattle.network.proofs.Named.{joins_at}
 use Rattle.network.proofs.Weights.{total_same}
@@ -64,11 +64,12 @@ module _ {p q : Picture} (links : joins p.links ≡ joins q.links) (services : j
         reached = subst₂ (λ (j : ℕ → ℕ → Bool) (h : ℕ → Bool). Reached j h s.location) links e s.reached;
       }
 
-module _ {p q : Picture} {b : ℕ} where
-  cuts_on : {c : ℕ} → Served p (is_held p) c ↔ Served q (is_held q) c → Served p (held_without p b) c ↔ Served q (held_without q b) c → Cuts p b c → Cuts q b c
-  cuts_on now left k = record { before = now.0 k.before; after = λ s. k.after (left.1 s) }
+module _ {p q : Picture} {earlier later earlier' later' : ℕ → Bool} where
+  loses_on : {c : ℕ} → Served p earlier c ↔ Served q earlier' c → Served p later c ↔ Served q later' c → Loses p earlier later c → Loses q earlier' later' c
+  loses_on now left k = record { before = now.0 k.before; after = λ s. k.after (left.1 s) }
 
-  protected_on : endpoint_count p ≡ endpoint_count q → endpoint_of p ≡ endpoint_of q → ((c : ℕ) → Cuts p b c ↔ Cuts q b c) → CutsProtected p b → CutsProtected q b
+  protected_on : endpoint_count p ≡ endpoint_count q → endpoint_of p ≡ endpoint_of q → ((c : ℕ) → Loses p earlier later c ↔ Loses q earlier' later' c)
+      → LosesProtected p earlier later → LosesProtected q earlier' later'
   protected_on count e cuts k =
       record {
         endpoint = k.endpoint;
@@ -78,6 +79,7 @@ module _ {p q : Picture} {b : ℕ} where
         cut = (cuts k.endpoint).0 k.cut;
       }
 
+module _ {p q : Picture} {b : ℕ} where
   candidate_on : in_block p ≡ in_block q → is_held p ≡ is_held q → slot_of p ≡ slot_of q → Candidate p b → Candidate q b
   candidate_on i h s k =
       record {
@@ -126,7 +128,7 @@ module _ {p q : Picture} (r : Repeated p q) where
       go (suc j) = λ i. eqb (same_slot i (suc j)).state 0
 
   pub same_left : held_without p ≡ held_without q
-  unfolding held_without
+  unfolding outside
   same_left = λ i b v. same_held i v && not (same_block i b v)
 
   same_endpoint : endpoint_of p ≡ endpoint_of q
@@ -158,6 +160,10 @@ module _ {p q : Picture} (r : Repeated p q) where
   unfolding cut
   same_cut = λ i now left c. repeated_service i now c && not (repeated_service i left c)
 
+  pub same_protected : cut_protected p ≡ cut_protected q
+  unfolding cut_protected
+  same_protected = λ i now left. any (λ c. (same_endpoint i c).protected && same_cut i now left c) (range 1 (same_endpoints i))
+
   pub repeated_served_weight : served_weight p ≡ served_weight q
   unfolding served_weight
   repeated_served_weight = λ i. same_where i (same_weight i) (repeated_service i (repeated_marks i (same_held i)))
@@ -171,7 +177,7 @@ module _ {p q : Picture} (r : Repeated p q) where
         block = b;
         loss = same_where i (same_weight i) hit;
         cuts = same_where i (λ _. 1) hit;
-        mark = on (any (λ c. (same_endpoint i c).protected && hit c) (range 1 (same_endpoints i))) 1;
+        mark = on (same_protected i (repeated_marks i (same_held i)) (repeated_marks i (same_left i b))) 1;
       }
 
   pub repeated_candidates : candidates p ≡ candidates q
@@ -190,7 +196,7 @@ module _ {p q : Picture} (r : Repeated p q) where
   repeated_cuts b c =
       let now = served_same same_held c in
       let left = served_same (λ i. same_left i b) c in
-      (cuts_on now left, cuts_on (Iff.symm now) (Iff.symm left))
+      (loses_on now left, loses_on (Iff.symm now) (Iff.symm left))
 
   pub repeated_cuts_protected : (b : ℕ) → CutsProtected p b ↔ CutsProtected q b
   repeated_cuts_protected b = (

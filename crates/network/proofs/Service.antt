@@ -8,7 +8,7 @@ use Rattle.lists.proofs.Tests.{and_T, T_and, eq_T, any_at, at_any}
 use Rattle.graph.proofs.Settling.{marked_reached, reached_marked}
 use Rattle.picture.specs.Picture.{Picture}
 use Rattle.picture.specs.Rules.{no_link}
-use Rattle.network.specs.Words.{slot_count, is_held, held_without, joins, Served, Cuts, Named}
+use Rattle.network.specs.Words.{slot_count, joins, Served, Loses, Named}
 use Rattle.network.specs.Tests.{marks, served, cut}
 use Rattle.network.proofs.Named.{joins_at, at_joins}
 
@@ -33,18 +33,18 @@ served_marked {p} {held} {c} n s =
     at_any no_link _ p.service_links j.at j.within
     (T_and (get_or (marks p held) l.from false) (eqb l.to c) (rw j.from (reached_marked (joins p.links) held (slot_count p) n.links s.reached)) (eq_T l.to c j.to))
 
-module _ {p : Picture} (n : Named p) where
-  pub cut_cuts : (b c : ℕ) → T (cut p (marks p (is_held p)) (marks p (held_without p b)) c) → Cuts p b c
+module _ {p : Picture} (n : Named p) {earlier later : ℕ → Bool} where
+  pub cut_loses : (c : ℕ) → T (cut p (marks p earlier) (marks p later) c) → Loses p earlier later c
   unfolding cut
-  cut_cuts b c t =
-      let s = and_T (served p (marks p (is_held p)) c) (not (served p (marks p (held_without p b)) c)) t in
+  cut_loses c t =
+      let s = and_T (served p (marks p earlier) c) (not (served p (marks p later) c)) t in
       record {
-        before = marked_served p (is_held p) c s.0;
-        after = λ w. T_not (served p (marks p (held_without p b)) c) s.1 (served_marked n w);
+        before = marked_served p earlier c s.0;
+        after = λ w. T_not (served p (marks p later) c) s.1 (served_marked n w);
       }
 
-  pub cuts_cut : {b c : ℕ} → Cuts p b c → T (cut p (marks p (is_held p)) (marks p (held_without p b)) c)
+  pub loses_cut : {c : ℕ} → Loses p earlier later c → T (cut p (marks p earlier) (marks p later) c)
   unfolding cut
-  cuts_cut {b} {c} k =
-      T_and (served p (marks p (is_held p)) c) (not (served p (marks p (held_without p b)) c)) (served_marked n k.before)
-      (not_T (served p (marks p (held_without p b)) c) (λ t. k.after (marked_served p (held_without p b) c t)))
+  loses_cut {c} k =
+      T_and (served p (marks p earlier) c) (not (served p (marks p later) c)) (served_marked n k.before)
+      (not_T (served p (marks p later) c) (λ t. k.after (marked_served p later c t)))

@@ -1,6 +1,6 @@
 -- The rows of the held and the held near slots, once every slot is looked at. Assumes nothing.
-use mathlib.Core.Path.{◌≡◌, refl, ap, ◌∙◌, subst}
-use mathlib.Core.Bool.{Bool, false, ◌&&◌, ◌||◌, and-false}
+use mathlib.Core.Path.{◌≡◌, refl, sym, ap, ◌∙◌, subst}
+use mathlib.Core.Bool.{Bool, true, false, ◌&&◌, ◌||◌, and-false}
 use mathlib.Core.Logic.{by_cases}
 use mathlib.Core.List.{List}
 use Prim.Native.Nat.{ℕ, zero, suc, ◌≤◌, ◌<◌}
@@ -17,7 +17,7 @@ use Rattle.picture.specs.Picture.{Slot, Picture, slot_of}
 use Rattle.picture.proofs.Starts.{slot_past}
 use Rattle.network.specs.Words.{slot_count, is_held}
 use Rattle.network.specs.Tests.{is_near_held}
-use Rattle.network.specs.Rows.{SlotRowsOf}
+use Rattle.network.specs.Rows.{SlotRowOf, SlotRowsOf}
 use Rattle.network.proofs.Candidates.{near_slot}
 use Rattle.network.proofs.Making.{Scanned, Above}
 
@@ -50,29 +50,37 @@ scanned_at f row v s u h = s.same u ∙ by_cases (T? (f u)) yes_there no_there
 pub scanned_all : (f : ℕ → Bool) (row : List ℕ) (v : ℕ) → Scanned f row v → ((u : ℕ) → T (f u) → (1 ≤ u) × (u < v)) → (u : ℕ) → marked row u ≡ f u
 scanned_all f row v s h u = scanned_at f row v s u (h u)
 
--- every slot was looked at
-pub slots_looked : (p : Picture) (holding nearby : List ℕ) (v : ℕ) → length p.slots ≤ slots_max → v < 1 → Above (is_held p) holding v
-    → Above (is_near_held p) nearby v → SlotRowsOf p holding nearby
+-- every slot was looked at: the row marks those that hold the bundle, where the origin does and past the slots nothing
+pub slot_looked : (p : Picture) (held : ℕ → Bool) (row : List ℕ) (v : ℕ) → held 0 ≡ true → ((u : ℕ) → 1 ≤ u → T (held u) → u ≤ length p.slots)
+    → length p.slots ≤ slots_max → v < 1 → Above held row v → SlotRowOf p held row
 unfolding held_in slot_count
-slots_looked p holding nearby v m z s r =
+slot_looked p held row v origin own m z s =
     record {
-      slots = record { most = m; above = λ u t. ltb→lt 0 u (seen u t).0; within = λ u t. held_within p u (ltb→lt 0 u (seen u t).0) (seen u t).1 };
-      held = held;
-      near = λ u. rw none at r.same u ∙ near u;
+      only = record { most = m; above = λ u t. ltb→lt 0 u (seen u t).0; within = λ u t. own u (ltb→lt 0 u (seen u t).0) (seen u t).1 };
+      same = same;
     }
   where
     none : v ≡ 0
     none = omega arith
 
-    seen : (u : ℕ) → T (marked holding u) → T (ltb 0 u) × T (is_held p u)
-    seen u t = and_T (ltb 0 u) (is_held p u) (subst T (rw none at s.same u) t)
+    seen : (u : ℕ) → T (marked row u) → T (ltb 0 u) × T (held u)
+    seen u t = and_T (ltb 0 u) (held u) (subst T (rw none at s.same u) t)
+
+    same : (u : ℕ) → held_in row u ≡ held u
+    same zero = sym origin
+    same (suc i) =
+        ap (λ (b : Bool). b || marked row (suc i)) (eqb-suc-zero i)
+        ∙ rw none at s.same (suc i) ∙ rw (lt-ltb 0 (suc i) (omega arith))
+
+pub slots_looked : (p : Picture) (holding nearby : List ℕ) (v : ℕ) → length p.slots ≤ slots_max → v < 1 → Above (is_held p) holding v
+    → Above (is_near_held p) nearby v → SlotRowsOf p holding nearby
+unfolding is_held
+slots_looked p holding nearby v m z s r =
+    record { held = slot_looked p (is_held p) holding v refl (held_within p) m z s; near = λ u. rw none at r.same u ∙ near u }
+  where
+    none : v ≡ 0
+    none = omega arith
 
     near : (u : ℕ) → (ltb 0 u && is_near_held p u) ≡ is_near_held p u
     near zero = simp (near_outside p 0 (λ i. absurd (omega (arith, i.0))))
     near (suc i) = rw (lt-ltb 0 (suc i) (omega arith))
-
-    held : (u : ℕ) → held_in holding u ≡ is_held p u
-    held zero = unfold is_held in refl
-    held (suc i) =
-        ap (λ (b : Bool). b || marked holding (suc i)) (eqb-suc-zero i)
-        ∙ rw none at s.same (suc i) ∙ rw (lt-ltb 0 (suc i) (omega arith))

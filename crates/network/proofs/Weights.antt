@@ -6,7 +6,7 @@ use mathlib.Core.List.{List}
 use Prim.Native.Nat.{ℕ, ◌+◌, ◌^◌, ◌≤◌, ◌<◌, zero-le}
 use native.Mathlib.Omega.{arith}
 use lib.Dec.{T}
-use Rattle.lists.specs.Lists.{range, on, any}
+use Rattle.lists.specs.Lists.{on}
 use Rattle.lists.specs.Totals.{Total, none, with, without}
 use Rattle.lists.proofs.Tests.{and_T, T_and}
 use Rattle.lists.proofs.Ranges.{any_range, range_any}
@@ -19,16 +19,16 @@ use Rattle.picture.specs.Picture.{Picture, Endpoint, header_of, picture_of, endp
 use Rattle.picture.specs.Faults.{picture_fault}
 use Rattle.picture.proofs.Starts.{field_first, endpoint_row}
 use Rattle.picture.proofs.Accepted.{accepted_kept}
-use Rattle.network.specs.Words.{endpoint_count, is_held, held_without, weight_of, Served, Cuts, Sum, ServedWeight, Loss, CutCount, CutsProtected, Named}
-use Rattle.network.specs.Tests.{marks, served, cut, sum_where, weighed}
+use Rattle.network.specs.Words.{endpoint_count, is_held, held_without, weight_of, Served, Cuts, Sum, ServedWeight, Loss, CutCount, LosesProtected, CutsProtected, Named}
+use Rattle.network.specs.Tests.{marks, served, cut, cut_protected, sum_where, weighed}
 use Rattle.network.proofs.Named.{endpoints_counted}
-use Rattle.network.proofs.Service.{marked_served, served_marked, cut_cuts, cuts_cut}
+use Rattle.network.proofs.Service.{marked_served, served_marked, cut_loses, loses_cut}
 
 -- ---- the sums and the mark
 
--- what the mark asks of each endpoint
-hurts : Picture → ℕ → ℕ → Bool
-hurts p b c = (endpoint_of p c).protected && cut p (marks p (is_held p)) (marks p (held_without p b)) c
+-- what is asked of each endpoint
+hurts : Picture → List Bool → List Bool → ℕ → Bool
+hurts p now later c = (endpoint_of p c).protected && cut p now later c
 
 module _ {p : Picture} (n : Named p) where
   pub served_weight_lem : (held : ℕ → Bool) → ServedWeight p held (sum_where p (weight_of p) (served p (marks p held)))
@@ -37,7 +37,7 @@ module _ {p : Picture} (n : Named p) where
 
   pub cut_sum : (b : ℕ) (w : ℕ → ℕ) → Sum p w (Cuts p b) (sum_where p w (cut p (marks p (is_held p)) (marks p (held_without p b))))
   unfolding sum_where
-  cut_sum b w = total (Cuts p b) w (cut p (marks p (is_held p)) (marks p (held_without p b))) (cut_cuts n b) (λ c k. cuts_cut n k) 1 (endpoint_count p)
+  cut_sum b w = total (Cuts p b) w (cut p (marks p (is_held p)) (marks p (held_without p b))) (cut_loses n) (λ c k. loses_cut n k) 1 (endpoint_count p)
 
   pub loss_weight : (b : ℕ) → Loss p b (weighed p b).loss
   unfolding weighed
@@ -47,20 +47,30 @@ module _ {p : Picture} (n : Named p) where
   unfolding weighed
   cuts_counted b = cut_sum b (λ _. 1)
 
-  pub mark_protected : (b : ℕ) → (weighed p b).mark ≡ 1 → CutsProtected p b
-  unfolding weighed hurts
-  mark_protected b e =
-      let r = any_range (hurts p b) 1 (endpoint_count p) (on_true (any (hurts p b) (range 1 (endpoint_count p))) 1 (omega (arith, e))) in
+  -- a protected endpoint, between any two moments
+  pub cut_protected_loses : (earlier later : ℕ → Bool) → T (cut_protected p (marks p earlier) (marks p later)) → LosesProtected p earlier later
+  unfolding cut_protected hurts
+  cut_protected_loses earlier later t =
+      let r = any_range (hurts p (marks p earlier) (marks p later)) 1 (endpoint_count p) t in
       let c = r.number in
-      let s = and_T (endpoint_of p c).protected (cut p (marks p (is_held p)) (marks p (held_without p b)) c) r.passes in
-      record { endpoint = c; some = r.from; most = omega arith; protected = s.0; cut = cut_cuts n b c s.1 }
+      let s = and_T (endpoint_of p c).protected (cut p (marks p earlier) (marks p later) c) r.passes in
+      record { endpoint = c; some = r.from; most = omega arith; protected = s.0; cut = cut_loses n c s.1 }
 
-  pub protected_mark : {b : ℕ} → CutsProtected p b → (weighed p b).mark ≡ 1
-  unfolding weighed hurts
-  protected_mark {b} k =
+  pub loses_cut_protected : {earlier later : ℕ → Bool} → LosesProtected p earlier later → T (cut_protected p (marks p earlier) (marks p later))
+  unfolding cut_protected hurts
+  loses_cut_protected {earlier} {later} k =
       let c = k.endpoint in
-      let t = T_and (endpoint_of p c).protected (cut p (marks p (is_held p)) (marks p (held_without p b)) c) k.protected (cuts_cut n k.cut) in
-      on_pass (any (hurts p b) (range 1 (endpoint_count p))) 1 (range_any (hurts p b) 1 (endpoint_count p) (record { number = c; from = k.some; below = omega (arith, k.most); passes = t }))
+      let t = T_and (endpoint_of p c).protected (cut p (marks p earlier) (marks p later) c) k.protected (loses_cut n k.cut) in
+      range_any (hurts p (marks p earlier) (marks p later)) 1 (endpoint_count p) (record { number = c; from = k.some; below = omega (arith, k.most); passes = t })
+
+  pub mark_protected : (b : ℕ) → (weighed p b).mark ≡ 1 → CutsProtected p b
+  unfolding weighed
+  mark_protected b e =
+      cut_protected_loses (is_held p) (held_without p b) (on_true (cut_protected p (marks p (is_held p)) (marks p (held_without p b))) 1 (omega (arith, e)))
+
+  pub protected_mark : (b : ℕ) → CutsProtected p b → (weighed p b).mark ≡ 1
+  unfolding weighed
+  protected_mark b k = on_pass (cut_protected p (marks p (is_held p)) (marks p (held_without p b))) 1 (loses_cut_protected k)
 
 -- the sum over what one test picks of what another does, and the rest
 pub where_split : (p : Picture) (w : ℕ → ℕ) (f g : ℕ → Bool) → ((c : ℕ) → T (g c) → T (f c)) → sum_where p w g + sum_where p w (λ c. f c && not (g c)) ≡ sum_where p w f

@@ -20,10 +20,14 @@ pub record RowsOf (k : ℕ) (f : ℕ → ℕ → Bool) (table : List (List ℕ))
   pub many : length table ≡ k
   pub same : (a b : ℕ) → linked_in table a b ≡ f a b
 
+-- the row of the slots that hold the bundle, in one sense or another
+pub record SlotRowOf (p : Picture) (held : ℕ → Bool) (row : List ℕ) : Type 0 where
+  pub only : SlotsOnly (slot_count p) row
+  pub same : (v : ℕ) → held_in row v ≡ held v
+
 -- the rows of the held slots and of the held near slots
 pub record SlotRowsOf (p : Picture) (holding nearby : List ℕ) : Type 0 where
-  pub slots : SlotsOnly (slot_count p) holding
-  pub held : (v : ℕ) → held_in holding v ≡ is_held p v
+  pub held : SlotRowOf p (is_held p) holding
   pub near : (v : ℕ) → marked nearby v ≡ is_near_held p v
 
 -- the weights of the endpoints by their numbers, and the row of the protected ones

@@ -19,6 +19,10 @@ served p t c = any (λ l. get_or t l.from false && eqb l.to c) p.service_links
 unfoldable pub cut : Picture → List Bool → List Bool → ℕ → Bool
 cut p now without c = served p now c && not (served p without c)
 
+-- a protected one is
+unfoldable pub cut_protected : Picture → List Bool → List Bool → Bool
+cut_protected p now without = any (λ c. (endpoint_of p c).protected && cut p now without c) (range 1 (endpoint_count p))
+
 -- the sum of w over the endpoints that a test picks, each once
 unfoldable pub sum_where : Picture → (ℕ → ℕ) → (ℕ → Bool) → ℕ
 sum_where p w f = sum (map (λ c. on (f c) (w c)) (range 1 (endpoint_count p)))
@@ -36,7 +40,7 @@ weighed p b =
       block = b;
       loss = sum_where p (weight_of p) (cut p now without);
       cuts = sum_where p (λ _. 1) (cut p now without);
-      mark = on (any (λ c. (endpoint_of p c).protected && cut p now without c) (range 1 (endpoint_count p))) 1;
+      mark = on (cut_protected p now without) 1;
     }
 
 -- a slot is held and near

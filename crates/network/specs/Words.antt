@@ -28,9 +28,13 @@ unfoldable pub is_held : Picture → ℕ → Bool
 is_held p zero = true
 is_held p (suc i) = eqb (slot_of p (suc i)).state 0
 
+-- the locations of `held` that are not in block b
+unfoldable pub outside : Picture → ℕ → (ℕ → Bool) → ℕ → Bool
+outside p b held v = held v && not (in_block p b v)
+
 -- held once b's slots are not
-unfoldable pub held_without : Picture → ℕ → ℕ → Bool
-held_without p b v = is_held p v && not (in_block p b v)
+abbrev pub held_without : Picture → ℕ → ℕ → Bool
+held_without p b = outside p b (is_held p)
 
 -- one of the links leads from a to b: a repeated link counts once
 unfoldable pub joins : List Link → ℕ → ℕ → Bool
@@ -42,10 +46,14 @@ pub record Served (p : Picture) (held : ℕ → Bool) (c : ℕ) : Type 0 where
   pub serves : T (joins p.service_links location c)
   pub reached : Reached (joins p.links) held location
 
+-- an endpoint loses its service between two moments: it is served where the first locations hold the bundle, and not where the second do
+pub record Loses (p : Picture) (earlier later : ℕ → Bool) (c : ℕ) : Type 0 where
+  pub before : Served p earlier c
+  pub after : ¬ Served p later c
+
 -- evicting b cuts an endpoint that is served now and isn't once b's slots are not held
-pub record Cuts (p : Picture) (b c : ℕ) : Type 0 where
-  pub before : Served p (is_held p) c
-  pub after : ¬ Served p (held_without p b) c
+abbrev pub Cuts : Picture → ℕ → ℕ → Type 0
+Cuts p b = Loses p (is_held p) (held_without p b)
 
 -- the weight of an endpoint
 unfoldable pub weight_of : Picture → ℕ → ℕ
@@ -67,13 +75,17 @@ Loss p b = Sum p (weight_of p) (Cuts p b)
 abbrev pub CutCount : Picture → ℕ → ℕ → Type 0
 CutCount p b = Sum p (λ _. 1) (Cuts p b)
 
--- b cuts a protected endpoint
-pub record CutsProtected (p : Picture) (b : ℕ) : Type 0 where
+-- a protected endpoint loses its service
+pub record LosesProtected (p : Picture) (earlier later : ℕ → Bool) : Type 0 where
   pub endpoint : ℕ
   pub some : 1 ≤ endpoint
   pub most : endpoint ≤ endpoint_count p
   pub protected : T (endpoint_of p endpoint).protected
-  pub cut : Cuts p b endpoint
+  pub cut : Loses p earlier later endpoint
+
+-- b cuts a protected endpoint
+abbrev pub CutsProtected : Picture → ℕ → Type 0
+CutsProtected p b = LosesProtected p (is_held p) (held_without p b)
 
 -- a candidate is a block with at least one held near slot
 pub record Candidate (p : Picture) (b : ℕ) : Type 0 where

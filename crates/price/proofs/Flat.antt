@@ -14,7 +14,7 @@ use Rattle.graph.specs.Chains.{Chain, Reached}
 use Rattle.graph.specs.Chains.Chain.{origin, step}
 use Rattle.graph.proofs.Chains.{chain_held}
 use Rattle.picture.specs.Picture.{Picture}
-use Rattle.network.specs.Words.{in_block, is_held, held_without, joins, Served, Cuts}
+use Rattle.network.specs.Words.{in_block, is_held, outside, held_without, joins, Served, Cuts}
 use Rattle.network.proofs.Evicting.{chain_more, without_held}
 use Rattle.price.specs.Feeders.{Flat, OnlyFeeder}
 
@@ -49,33 +49,33 @@ module _ (p : Picture) (h : 1 ≤ p.block_size) where
 
 -- a slot that is reached without a block is not of it
 reached_outside : (p : Picture) (b v : ℕ) → 1 ≤ v → Reached (joins p.links) (held_without p b) v → ¬ T (in_block p b v)
-unfolding held_without
+unfolding outside
 reached_outside p b v l r = T_not (in_block p b v) (and_T (is_held p v) (not (in_block p b v)) (chain_held r.chain l)).1
 
 module _ {p : Picture} where
   -- in a flat network a reached location outside the block is reached without the block
   reached_without : Flat p → (b : ℕ) {v : ℕ} → T (not (in_block p b v)) → Reached (joins p.links) (is_held p) v
       → Reached (joins p.links) (held_without p b) v
-  unfolding held_without
+  unfolding outside
   reached_without f b {v} n r =
       ⊎_elim (λ e. rw e (record { links = 0; chain = origin }))
       (λ s. reached_flat p s.0 (T_and (is_held p v) (not (in_block p b v)) s.1 n)) (flat_reached f r)
 
   -- so every reached location that serves an endpoint which the block cuts is of the block
-  cut_inside : Flat p → {b c v : ℕ} → Cuts p b c → T (joins p.service_links v c) → Reached (joins p.links) (is_held p) v → T (in_block p b v)
-  cut_inside f {b} {c} {v} k s r =
+  cut_inside : Flat p → (b : ℕ) → {c v : ℕ} → Cuts p b c → T (joins p.service_links v c) → Reached (joins p.links) (is_held p) v → T (in_block p b v)
+  cut_inside f b {c} {v} k s r =
       ⊎_elim (λ t. t) (λ n. absurd (k.after (record { location = v; serves = s; reached = reached_without f b n r }))) (either (in_block p b v))
 
   -- so the block is the one feeder, and the origin does not serve
-  cuts_only : Flat p → 1 ≤ p.block_size → {b c : ℕ} → Cuts p b c → OnlyFeeder p b c
+  cuts_only : Flat p → 1 ≤ p.block_size → (b : ℕ) → {c : ℕ} → Cuts p b c → OnlyFeeder p b c
   unfolding in_block
-  cuts_only f h {b} {c} k =
-      let inside = cut_inside f k k.before.serves k.before.reached in
+  cuts_only f h b {c} k =
+      let inside = cut_inside f b k k.before.serves k.before.reached in
       record {
         feeds = record { slot = k.before.location; inside = inside; reached = k.before.reached; serves = k.before.serves };
-        only = λ a w. block_one p h a w.slot w.inside ∙ sym (block_one p h b w.slot (cut_inside f k w.serves w.reached));
+        only = λ a w. block_one p h a w.slot w.inside ∙ sym (block_one p h b w.slot (cut_inside f b k w.serves w.reached));
         origin = λ s.
-            let t = cut_inside f k s (record { links = 0; chain = origin }) in
+            let t = cut_inside f b k s (record { links = 0; chain = origin }) in
             grind (arith, nat_tests);
       }
 
@@ -96,4 +96,4 @@ module _ {p : Picture} where
 
 -- in a flat network a block cuts the endpoints whose one feeder it is
 pub flat_cuts : {p : Picture} → Flat p → 1 ≤ p.block_size → (b c : ℕ) → Cuts p b c ↔ OnlyFeeder p b c
-flat_cuts f h b c = (λ k. cuts_only f h k, λ o. only_cuts h o)
+flat_cuts f h b c = (λ k. cuts_only f h b k, λ o. only_cuts h o)

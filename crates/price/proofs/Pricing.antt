@@ -25,7 +25,7 @@ use Rattle.network.specs.Words.{slot_count, endpoint_count, block_count, is_held
 use Rattle.network.specs.Tests.{marks, cut, sum_where}
 use Rattle.network.proofs.Named.{accepted_named}
 use Rattle.network.proofs.Blocks.{read_block_size, read_slots, blocks_small}
-use Rattle.network.proofs.Service.{cut_cuts, cuts_cut}
+use Rattle.network.proofs.Service.{cut_loses, loses_cut}
 use Rattle.network.proofs.Weights.{cut_sum}
 use Rattle.price.specs.declared.Record.{Record}
 use Rattle.price.specs.Traffic.{records_of, traffic}
@@ -101,10 +101,10 @@ module _ (bs : List ℕ) (z : picture_fault bs ≡ 0) (f : Flat (picture_of bs))
 
   -- where b is the one feeder of c
   cuts_feeder : (b c : ℕ) → T (cuts b c) → OnlyFeeder p b c
-  cuts_feeder b c t = (flat_cuts f size_some b c).0 (cut_cuts named b c t)
+  cuts_feeder b c t = (flat_cuts f size_some b c).0 (cut_loses named c t)
 
   feeder_cuts : (b c : ℕ) → OnlyFeeder p b c → T (cuts b c)
-  feeder_cuts b c o = cuts_cut named ((flat_cuts f size_some b c).1 o)
+  feeder_cuts b c o = loses_cut named ((flat_cuts f size_some b c).1 o)
 
   -- and so where b is told
   cuts_told : (b c : ℕ) → b < blocks_max → cuts b c ≡ eqb (tells c) b

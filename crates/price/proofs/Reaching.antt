@@ -60,8 +60,8 @@ unfolding joins held_in
 reaching_ended {p} {holding} {near} {row} {i} s r h = record { marks = λ v. r.marks v ∙ ap₂ ◌&&◌ (held v) (any_take_all no_link (leads 0 v) p.links i h) ∙ go v }
   where
     held : (v : ℕ) → marked holding v ≡ (ltb 0 v && is_held p v)
-    held zero = is_false (marked holding 0) (λ t. not-suc-le-zero (s.slots.above 0 t))
-    held (suc i) = rw (lt-ltb 0 (suc i) (omega arith)) (rw (eqb-suc-zero i) at (s.held (suc i)))
+    held zero = is_false (marked holding 0) (λ t. not-suc-le-zero (s.held.only.above 0 t))
+    held (suc i) = rw (lt-ltb 0 (suc i) (omega arith)) (rw (eqb-suc-zero i) at (s.held.same (suc i)))
 
     go : (v : ℕ) → ((ltb 0 v && is_held p v) && any (leads 0 v) p.links) ≡ (ltb 0 v && (is_held p v && any (leads 0 v) p.links))
     go v = and_assoc (ltb 0 v) (is_held p v) (any (leads 0 v) p.links)

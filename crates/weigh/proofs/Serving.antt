@@ -22,9 +22,9 @@ use Rattle.picture.specs.Picture.{Picture, picture_of, endpoint_of}
 use Rattle.picture.specs.Inner.{Read}
 use Rattle.picture.proofs.Facts.{read_limited}
 use Rattle.network.specs.declared.Tables.{Tables}
-use Rattle.network.specs.Words.{endpoint_count, in_block, is_held, held_without, joins, weight_of, Named}
-use Rattle.network.specs.Tests.{marks, served, cut, sum_where, served_weight, weighed}
-use Rattle.network.specs.Rows.{RowsOf, SlotRowsOf, EndpointsOf, TablesOf, block_range}
+use Rattle.network.specs.Words.{endpoint_count, in_block, is_held, outside, held_without, joins, weight_of, Named}
+use Rattle.network.specs.Tests.{marks, served, cut, cut_protected, sum_where, served_weight, weighed}
+use Rattle.network.specs.Rows.{RowsOf, SlotRowOf, EndpointsOf, TablesOf, block_range}
 use Rattle.network.proofs.Service.{marked_served, served_marked}
 use Rattle.network.proofs.Weights.{weight_small}
 use Rattle.network.proofs.Blocks.{read_slots}
@@ -39,32 +39,32 @@ walked_over : {linked : ℕ → ℕ → Bool} {held kept reaches : ℕ → Bool}
 walked_over {reaches = reaches} {parent = parent} {depth = depth} t h w =
     subst₂ (λ (l : ℕ → ℕ → Bool) (k : ℕ → Bool). Walked l k reaches parent depth) (fun_ext (λ a. fun_ext (λ b. t.same a b))) (fun_ext h) w
 
-module _ {p : Picture} {holding nearby : List ℕ} (s : SlotRowsOf p holding nearby) where
-  -- the row holds, outside no slots, what is held, and outside a block what is held without it
-  pub now_held : (v : ℕ) → without no_range (held_in holding) v ≡ is_held p v
-  now_held v = none_without (held_in holding) v ∙ s.held v
+module _ {p : Picture} {held : ℕ → Bool} {slots : List ℕ} (s : SlotRowOf p held slots) where
+  -- a row of slots holds, outside no range, what it holds, and outside a block what is left without it
+  pub now_held : (v : ℕ) → without no_range (held_in slots) v ≡ held v
+  now_held v = none_without (held_in slots) v ∙ s.same v
 
-  pub left_held : (b v : ℕ) → without (block_range p.block_size b) (held_in holding) v ≡ held_without p b v
-  unfolding without in_range held_without in_block
-  left_held b v = rw (s.held v)
+  pub left_held : (b v : ℕ) → without (block_range p.block_size b) (held_in slots) v ≡ outside p b held v
+  unfolding without in_range outside in_block
+  left_held b v = rw (s.same v)
 
   -- so are walks through these slots
   module _ {table : List (List ℕ)} {reaches : ℕ → Bool} {parent depth : List ℕ} (t : RowsOf locations_max (joins p.links) table) where
-    pub now_walked : Walked (linked_in table) (without no_range (held_in holding)) reaches parent depth → Walked (joins p.links) (is_held p) reaches parent depth
+    pub now_walked : Walked (linked_in table) (without no_range (held_in slots)) reaches parent depth → Walked (joins p.links) held reaches parent depth
     now_walked = walked_over t now_held
 
-    pub left_walked : {size : ℕ} (b : ℕ) → p.block_size ≡ size → Walked (linked_in table) (without (block_range size b) (held_in holding)) reaches parent depth
-        → Walked (joins p.links) (held_without p b) reaches parent depth
+    pub left_walked : {size : ℕ} (b : ℕ) → p.block_size ≡ size → Walked (linked_in table) (without (block_range size b) (held_in slots)) reaches parent depth
+        → Walked (joins p.links) (outside p b held) reaches parent depth
     left_walked b e w = walked_over t (left_held b) (rw (← e) at w)
 
-module _ {bs : List ℕ} {h : Header} (read : Read bs h) {holding nearby : List ℕ} (s : SlotRowsOf (picture_of bs) holding nearby) where
-  -- the row of what is held marks slots of the header
-  pub slots_only_lem : SlotsOnly h.slots holding
-  slots_only_lem = rw (← read_slots bs h read) s.slots
+module _ {bs : List ℕ} {h : Header} (read : Read bs h) {held : ℕ → Bool} {slots : List ℕ} (s : SlotRowOf (picture_of bs) held slots) where
+  -- a row of slots marks slots of the header
+  pub slots_only_lem : SlotsOnly h.slots slots
+  slots_only_lem = rw (← read_slots bs h read) s.only
 
   -- and so does a walk, so that the words of these are all that need be looked at
   pub walk_narrow : {words : ℕ} {linked : ℕ → ℕ → Bool} {row parent depth : List ℕ} (r : Range) → words ≡ words_for h.slots
-      → Walked linked (without r (held_in holding)) (marked row) parent depth → Narrow words row
+      → Walked linked (without r (held_in slots)) (marked row) parent depth → Narrow words row
   walk_narrow r e w = rw e (narrow_for _ _ slots_only_lem.most (walked_within r slots_only_lem w))
 
 -- ---- service
@@ -117,6 +117,15 @@ all_served p w f = ap (sum_where p w) (fun_ext (λ c. and-true (f c)))
 
 -- ---- what weighing gives, by the rows of what is reached
 
+-- the mark of what is lost between any two moments
+pub lost_mark : {p : Picture} {table : List (List ℕ)} {weights guarded : List ℕ} {d : ℕ} → EndpointsOf p weights guarded → d ≡ endpoint_count p
+    → (earlier later : ℕ → Bool) → {row row' : List ℕ} → Meets table row (served p (marks p earlier)) → Meets table row' (served p (marks p later))
+    → {lost : Lost} → LostBetween table weights guarded d row row' lost → lost.mark ≡ on (cut_protected p (marks p earlier) (marks p later)) 1
+unfolding cut_protected cut
+lost_mark {p} {weights = weights} {guarded} {d} e many earlier later now left l =
+    l.marks (served p (marks p earlier)) (served p (marks p later)) now left
+    ∙ between_mark p weights guarded e d many (served p (marks p earlier)) (served p (marks p later))
+
 module _ {p : Picture} {table : List (List ℕ)} {weights guarded : List ℕ} {d : ℕ} (e : EndpointsOf p weights guarded) (many : d ≡ endpoint_count p) {row : List ℕ}
     (now : Meets table row (served p (marks p (is_held p)))) where
   pub served_met : {none : List ℕ} {lost : Lost} → ((v : ℕ) → ¬ T (marked none v)) → LostBetween table weights guarded d row none lost → lost.weight ≡ served_weight p
@@ -141,5 +150,5 @@ module _ {p : Picture} {table : List (List ℕ)} {weights guarded : List ℕ} {d
     cuts_met = l.counts before after now without ∙ between_sum p weights guarded e d many before after (λ _. refl)
 
     pub mark_met : lost.mark ≡ (weighed p b).mark
-    unfolding weighed cut before after
-    mark_met = l.marks before after now without ∙ between_mark p weights guarded e d many before after
+    unfolding weighed
+    mark_met = lost_mark e many (is_held p) (held_without p b) now without l

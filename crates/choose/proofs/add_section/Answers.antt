@@ -15,7 +15,7 @@ pub block_range-block-requires : goal.block_range-block-requires
 block_range-block-requires c = let p = c.requires in read_block _ _ p.rows.read _ p.block
 
 pub walk_without-forest-requires : goal.walk_without-forest-requires
-walk_without-forest-requires c = let p = c.requires in slots_only_lem p.rows.read p.rows.slots
+walk_without-forest-requires c = let p = c.requires in slots_only_lem p.rows.read p.rows.slots.held
 
 -- the walk without the block
 rest : (c : After-walk_without-forest) → let t = c.args.weighing.now in let r = c.walk_without-forest.result in
@@ -23,7 +23,7 @@ rest : (c : After-walk_without-forest) → let t = c.args.weighing.now in let r 
 rest c = rw c.block_range-block.ensures at c.walk_without-forest.ensures
 
 pub lost-lost-requires-clause-narrow : goal.lost-lost-requires-clause-narrow
-lost-lost-requires-clause-narrow c = let r = c.requires.rows in walk_narrow r.read r.slots _ refl c.walk_without-forest.ensures
+lost-lost-requires-clause-narrow c = let r = c.requires.rows in walk_narrow r.read r.slots.held _ refl c.walk_without-forest.ensures
 
 pub put_section-requires : goal.put_section-requires
 put_section-requires c =

@@ -31,7 +31,7 @@ fits c = let p = c.requires in omega (arith, p.planned.long, p.room)
 -- the first walk goes through the picture
 walked : (c : After-walk-forest) → let p = picture_of c.args.p.now in let f = c.walk-forest.result in
     Walked (joins p.links) (is_held p) (marked f.reached) f.parent f.depth
-walked c = now_walked c.requires.planned.slots c.fill.ensures.links c.walk-forest.ensures
+walked c = now_walked c.requires.planned.slots.held c.fill.ensures.links c.walk-forest.ensures
 
 -- the rows are the picture's, wherever they are
 rows : (c : After-walk-forest) {i j k : _} → let plan = c.args.plan in
@@ -50,7 +50,7 @@ rows c =
       parents = _;
       depths = _;
       now = walked c;
-      narrow = walk_narrow c.header-h.ensures slots _ refl c.walk-forest.ensures;
+      narrow = walk_narrow c.header-h.ensures slots.held _ refl c.walk-forest.ensures;
     }
 
 -- all that is served
@@ -75,11 +75,11 @@ sectioned c =
     (c.put_sections-c.ensures _ (rows (goal.at.After-put_sections-c c).After-walk-forest))
 
 pub walk-forest-requires : goal.walk-forest-requires
-walk-forest-requires c = slots_only_lem c.header-h.ensures c.requires.planned.slots
+walk-forest-requires c = slots_only_lem c.header-h.ensures c.requires.planned.slots.held
 
 pub lost-all-requires : goal.lost-all-requires
 lost-all-requires c =
-    let narrow = walk_narrow c.header-h.ensures c.requires.planned.slots _ refl c.walk-forest.ensures in
+    let narrow = walk_narrow c.header-h.ensures c.requires.planned.slots.held _ refl c.walk-forest.ensures in
     record { rows = (_, rows (goal.at.lost-all-requires c).After-walk-forest); narrow = clear_narrow row_words narrow.most }
 
 pub put_forest-requires : goal.put_forest-requires

@@ -20,35 +20,35 @@ abbrev evicted : After-walk-before → ℕ
 evicted c = c.args.b
 
 pub walk-before-requires : goal.walk-before-requires
-walk-before-requires c = slots_only_lem c.header-h.ensures c.slot_rows-slots.ensures
+walk-before-requires c = slots_only_lem c.header-h.ensures c.slot_rows-slots.ensures.held
 
 pub block_range-requires : goal.block_range-requires
 block_range-requires c = read_block _ _ c.header-h.ensures _ c.requires
 
 pub walk_without-after-requires : goal.walk_without-after-requires
-walk_without-after-requires c = slots_only_lem c.header-h.ensures c.slot_rows-slots.ensures
+walk_without-after-requires c = slots_only_lem c.header-h.ensures c.slot_rows-slots.ensures.held
 
 -- both walks are walks over the picture
 now : (c : After-walk-before) → let r = c.walk-before.result in
     Walked (joins (shown c).links) (is_held (shown c)) (marked r.reached) r.parent r.depth
-now c = now_walked c.slot_rows-slots.ensures c.fill.ensures.links c.walk-before.ensures
+now c = now_walked c.slot_rows-slots.ensures.held c.fill.ensures.links c.walk-before.ensures
 
 left : (c : After-walk_without-after) → let r = c.walk_without-after.result in
     Walked (joins (shown (goal.at.After-walk_without-after c).After-walk-before).links)
     (held_without (shown (goal.at.After-walk_without-after c).After-walk-before) (evicted (goal.at.After-walk_without-after c).After-walk-before))
     (marked r.reached) r.parent r.depth
 left c =
-    left_walked c.slot_rows-slots.ensures c.fill.ensures.links
+    left_walked c.slot_rows-slots.ensures.held c.fill.ensures.links
     (evicted (goal.at.After-walk_without-after c).After-walk-before) (read_block_size _ _ c.header-h.ensures)
     (rw c.block_range.ensures at c.walk_without-after.ensures)
 
 -- what the walks reach is in the words that the header's slots take
 narrow : (c : After-walk-before) → Narrow c.words_for-words.result c.walk-before.result.reached
-narrow c = walk_narrow c.header-h.ensures c.slot_rows-slots.ensures _ c.words_for-words.ensures c.walk-before.ensures
+narrow c = walk_narrow c.header-h.ensures c.slot_rows-slots.ensures.held _ c.words_for-words.ensures c.walk-before.ensures
 
 narrow_left : (c : After-walk_without-after) → Narrow c.words_for-words.result c.walk_without-after.result.reached
 narrow_left c =
-    walk_narrow c.header-h.ensures c.slot_rows-slots.ensures _ c.words_for-words.ensures c.walk_without-after.ensures
+    walk_narrow c.header-h.ensures c.slot_rows-slots.ensures.held _ c.words_for-words.ensures c.walk_without-after.ensures
 
 pub lost_between-all-requires : goal.lost_between-all-requires
 lost_between-all-requires c =
