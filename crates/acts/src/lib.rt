@@ -151,6 +151,8 @@ fn cuts_over(p: &Picture, tables: &Tables, slots: Row, b: usize) -> bool
 }
 
 // An evict of block b cuts no protected endpoint.
+// Kept: compiled into the act, this or the next makes a reload take 33,272 bytes of stack in place of 4,520.
+#[inline(never)]
 #[tactic(auto, unfolding(crate::specs::Faults::cut_fault, lists::specs::Lists::on))]
 fn judge_evict(p: &Picture, b: usize) -> Result<(), Refusal>
     requires { b < block_count (picture_of p.now) }
@@ -166,6 +168,7 @@ fn judge_evict(p: &Picture, b: usize) -> Result<(), Refusal>
 }
 
 // Nor does a free, and none loses the last way that could have come back.
+#[inline(never)]
 #[tactic(auto, unfolding(crate::specs::Faults::cut_fault, lists::specs::Lists::on))]
 fn judge_free(p: &Picture, b: usize) -> Result<(), Refusal>
     requires { b < block_count (picture_of p.now) }

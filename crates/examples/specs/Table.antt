@@ -87,9 +87,13 @@ slots_only_second first n bytes = first ∷ n / 16 ∷ n % 16 * 16 ∷ 0 ∷ 0 �
 unfoldable pub one_link : List ℕ → List ℕ
 one_link link = set (slots_only_second 0x28 320 120) 6 0x10 ++ link
 
+-- A picture of A's size with these bytes of slots
+unfoldable pub with_slots : ℕ → ℕ → List ℕ → List ℕ
+with_slots first second bs = set (set bs 7 first) 8 second
+
 -- A with block 1 freed
 unfoldable pub freed_a : List ℕ
-freed_a = set (set case_a 7 0x26) 8 0xD0
+freed_a = with_slots 0x26 0xD0 case_a
 
 -- A with κ 4: all four slots, which are near, may be held
 unfoldable pub room_a : List ℕ
@@ -104,6 +108,23 @@ calls_a =
     ∷ record { act = Evict; block = 1 }
     ∷ record { act = Free; block = 1 }
     ∷ record { act = Reload; block = 1 }
+    ∷ []
+
+-- K with service link 4-1 for 4-2: endpoint 1 is served through block 0, and has a recoverable way besides
+unfoldable pub way_besides : List ℕ
+way_besides = set case_k 26 0x04
+
+-- K with service link 3-1, twice, for 1-1 and 2-1: the one way to endpoint 1 takes slot 1, which is held, and slot 3, which is recoverable
+unfoldable pub way_through_both : List ℕ
+way_through_both = set (set case_k 21 0x0C) 23 0x0C
+
+-- four calls on G with κ 4
+unfoldable pub calls_g : List Call
+calls_g =
+    record { act = Free; block = 0 }
+    ∷ record { act = Evict; block = 0 }
+    ∷ record { act = Free; block = 1 }
+    ∷ record { act = Reload; block = 0 }
     ∷ []
 
 -- the wide blocks with block 1, slots 16 to 30, evicted
@@ -303,6 +324,29 @@ table =
     ∷ record { question = act Evict case_k 1; says = 11 ∷ case_k }
     ∷ record { question = act Evict case_a 2; says = 8 ∷ case_a }
     ∷ record { question = act Evict (set case_a 0 0x32) 0; says = 2 ∷ set case_a 0 0x32 }
+    -- what could have come back (02, C-19): G's block 0, which is recoverable, is the one way to endpoint 1, so that freeing it is refused, though it
+    -- serves nothing now. Block 1 goes, whose endpoint is not protected, and so does block 0 where endpoint 1 is not
+    ∷ record { question = act Free case_g 0; says = 10 ∷ case_g }
+    ∷ record { question = act Evict case_g 0; says = 11 ∷ case_g }
+    ∷ record { question = act Free case_g 1; says = 0 ∷ with_slots 0x6E 0xD0 case_g }
+    ∷ record { question = act Free (set case_g 10 0xE0) 0; says = 0 ∷ with_slots 0xB5 0xB0 (set case_g 10 0xE0) }
+    ∷ record { question = act Free (set (set case_second 8 0x6D) 9 0xB0) 0; says = 10 ∷ set (set case_second 8 0x6D) 9 0xB0 }
+    -- a recoverable way besides the one that serves now: the block that serves stays, and the other goes; both where endpoint 1 is not protected,
+    -- and the first where the other way is held. Where it is freed it is none, and the first block stays, held or recoverable
+    ∷ record { question = act Free way_besides 0; says = 10 ∷ way_besides }
+    ∷ record { question = act Evict way_besides 0; says = 10 ∷ way_besides }
+    ∷ record { question = act Free way_besides 1; says = 0 ∷ with_slots 0x26 0xD0 way_besides }
+    ∷ record { question = act Free (set way_besides 10 0xE0) 0; says = 0 ∷ with_slots 0xB5 0xB0 (set way_besides 10 0xE0) }
+    ∷ record { question = act Free (with_slots 0x24 0x90 way_besides) 0; says = 0 ∷ with_slots 0xB4 0x90 way_besides }
+    ∷ record { question = act Free (with_slots 0x26 0xD0 way_besides) 0; says = 10 ∷ with_slots 0x26 0xD0 way_besides }
+    ∷ record { question = act Free (with_slots 0x6E 0xD0 way_besides) 0; says = 10 ∷ with_slots 0x6E 0xD0 way_besides }
+    -- both recoverable: either goes, but not both
+    ∷ record { question = act Free (with_slots 0x6D 0xB0 way_besides) 0; says = 0 ∷ with_slots 0xB5 0xB0 way_besides }
+    ∷ record { question = act Free (with_slots 0xB5 0xB0 way_besides) 1; says = 10 ∷ with_slots 0xB5 0xB0 way_besides }
+    -- a way of a held and a recoverable slot: it serves nothing now, so that evicting block 0 is done; freeing takes the way from endpoint 1
+    ∷ record { question = act Evict way_through_both 0; says = 0 ∷ with_slots 0x6D 0xB0 way_through_both }
+    ∷ record { question = act Free way_through_both 0; says = 10 ∷ way_through_both }
+    ∷ record { question = act Free way_through_both 1; says = 10 ∷ way_through_both }
     -- lists of calls (02, C-15): six on A with κ 4, of which evicting block 0 (10) and reloading what is freed (11) are refused, after each of
     -- them; all six on A, where reloading block 1 is refused (12) and evicting it again then too (11); and on A's network in edition 2
     ∷ record { question = calls room_a (take 1 calls_a); says = 0 ∷ 30 ∷ set case_k 2 4 }
@@ -313,6 +357,8 @@ table =
     ∷ record { question = calls room_a calls_a; says = 0 ∷ 0 ∷ 10 ∷ 0 ∷ 0 ∷ 11 ∷ 30 ∷ set freed_a 2 4 }
     ∷ record { question = calls case_a calls_a; says = 0 ∷ 12 ∷ 10 ∷ 11 ∷ 0 ∷ 11 ∷ 30 ∷ freed_a }
     ∷ record { question = calls case_second calls_a; says = 0 ∷ 12 ∷ 10 ∷ 11 ∷ 0 ∷ 11 ∷ 30 ∷ freed_second }
+    -- and four on G with κ 4, where nothing is served: block 0, which may not be freed (10) and has nothing to evict (11), comes back at the end
+    ∷ record { question = calls (set case_g 2 4) calls_g; says = 10 ∷ 11 ∷ 0 ∷ 0 ∷ 30 ∷ set freed_a 2 4 }
     -- write: A's lists give A's bytes, fill bits included; more bytes stay, and a buffer that is a byte short is as it was. The lists of other
     -- pictures give theirs
     ∷ record { question = write (lists_a 1) (replicate 27 0xFF); says = 0 ∷ 27 ∷ case_a }
