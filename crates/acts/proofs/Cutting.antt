@@ -13,7 +13,7 @@ use Rattle.picture.specs.declared.Header.{Header}
 use Rattle.picture.specs.Picture.{picture_of}
 use Rattle.picture.specs.Inner.{Read}
 use Rattle.network.specs.declared.Tables.{Tables}
-use Rattle.network.specs.Words.{outside}
+use Rattle.network.specs.Words.{without_block}
 use Rattle.network.specs.Rows.{SlotRowOf, TablesOf, block_range}
 use Rattle.network.proofs.Named.{accepted_named}
 use Rattle.network.proofs.Blocks.{read_block_size, read_endpoints}
@@ -33,11 +33,11 @@ module _ {bs : List ℕ} {h : Header} (read : Read bs h) {t : Tables} (tables : 
   pub mark_cuts : {before after parent depth parent' depth' : List ℕ} → Walked (linked_in t.links) (without no_range (held_in slots)) (marked before) parent depth
       → Walked (linked_in t.links) (without (block_range h.block_size b) (held_in slots)) (marked after) parent' depth'
       → {lost : Lost} → LostBetween t.services t.weights t.protected h.endpoints before after lost
-      → eqb lost.mark 1 ≡ cuts_over held (picture_of bs) b
+      → eqb lost.mark 1 ≡ cuts_over (picture_of bs) held b
   unfolding cuts_over
   mark_cuts now left lost =
       let p = picture_of bs in
       let named = accepted_named bs read.accepted in
       let before = walk_meets named tables.services (now_walked s tables.links now) in
       let after = walk_meets named tables.services (left_walked s tables.links b (read_block_size bs h read) left) in
-      rw (lost_mark tables.ends (read_endpoints bs h read) held (outside p b held) before after lost) (marked_one _)
+      rw (lost_mark tables.ends (read_endpoints bs h read) held (without_block p held b) before after lost) (marked_one _)

@@ -9,7 +9,7 @@ use lib.Dec.{eqb}
 use Rattle.graph.specs.Rounds.{reached_in}
 use Rattle.picture.specs.Picture.{Picture, Slot, picture_of, slot_of, endpoint_of}
 use Rattle.picture.specs.Faults.{picture_fault}
-use Rattle.network.specs.Words.{endpoint_count, block_count, in_block, is_held, outside, held_without, joins, weight_of, Named}
+use Rattle.network.specs.Words.{endpoint_count, block_count, in_block, is_held, without_block, held_without, joins, weight_of, Named}
 use Rattle.network.specs.Tests.{marks, served, sum_where, served_weight, weighed}
 use Rattle.network.proofs.Named.{accepted_named}
 use Rattle.network.proofs.Evicting.{loss_off}
@@ -47,7 +47,7 @@ module _ {a : Act} (n : Empties a) (p : Picture) (b : ℕ) where
 
   -- such an act leaves held what is held without the block
   pub emptied_held : (v : ℕ) → is_held (act_on a p b) v ≡ held_without p b v
-  unfolding is_held outside slot_after
+  unfolding is_held without_block slot_after
   emptied_held zero = sym (ap not (origin_apart p b))
   emptied_held (suc i) = ap (λ (s : Slot). eqb s.state 0) (slot_acted a p b (suc i)) ∙ held_state (in_block p b (suc i)) (slot_of p (suc i)).state
 

@@ -17,7 +17,7 @@ use Rattle.picture.specs.Picture.{Picture, picture_of, slot_of}
 use Rattle.picture.specs.Faults.{picture_fault}
 use Rattle.picture.specs.Rules.{rules}
 use Rattle.picture.proofs.Accepted.{picture_judged, numbered}
-use Rattle.network.specs.Words.{slot_count, block_count, in_block, is_held, outside, Named}
+use Rattle.network.specs.Words.{slot_count, block_count, in_block, is_held, without_block, Named}
 use Rattle.network.proofs.Named.{accepted_named}
 use Rattle.network.proofs.Candidates.{near_slot}
 use Rattle.network.proofs.Weights.{cut_protected_loses, loses_cut_protected}
@@ -76,20 +76,20 @@ module _ (p : Picture) (b : ℕ) where
 
   module _ (n : Named p) where
     -- over any locations
-    over_spares : (held : ℕ → Bool) → T (not (cuts_over held p b)) → SparesOver held p b
+    over_spares : (held : ℕ → Bool) → T (not (cuts_over p held b)) → SparesOver p held b
     unfolding cuts_over
-    over_spares held t k = T_not (cuts_over held p b) t (loses_cut_protected n k)
+    over_spares held t k = T_not (cuts_over p held b) t (loses_cut_protected n k)
 
-    over_breaks : (held : ℕ → Bool) → T (cuts_over held p b) → ¬ SparesOver held p b
+    over_breaks : (held : ℕ → Bool) → T (cuts_over p held b) → ¬ SparesOver p held b
     unfolding cuts_over
-    over_breaks held t s = s (cut_protected_loses n held (outside p b held) t)
+    over_breaks held t s = s (cut_protected_loses n held (without_block p held b) t)
 
     cut_spares : (a : Act) → cut_fault a p b ≡ 0 → Spares a p b
     unfolding cut_fault
     cut_spares Evict e = over_spares (is_held p) (on_zero _ 9 e)
     cut_spares Reload e = tt
     cut_spares Free e =
-        let t = not_or (cuts_over (is_held p) p b) (cuts_over (held_or_recoverable p) p b) (on_zero _ 9 e) in
+        let t = not_or (cuts_over p (is_held p) b) (cuts_over p (held_or_recoverable p) b) (on_zero _ 9 e) in
         (over_spares (is_held p) t.0, over_spares (held_or_recoverable p) t.1)
 
     cut_breaks : (a : Act) → cut_fault a p b ≢ 0 → ¬ Spares a p b × (cut_fault a p b ≡ 10)
@@ -97,7 +97,7 @@ module _ (p : Picture) (b : ℕ) where
     cut_breaks Evict z = (over_breaks (is_held p) (on_true _ 10 z), on_told _ 10 z)
     cut_breaks Reload z = absurd (z refl)
     cut_breaks Free z =
-        let t = or_T (cuts_over (is_held p) p b) (cuts_over (held_or_recoverable p) p b) (on_true _ 10 z) in
+        let t = or_T (cuts_over p (is_held p) b) (cuts_over p (held_or_recoverable p) b) (on_true _ 10 z) in
         (λ s. ⊎_elim (λ x. over_breaks (is_held p) x s.0) (λ x. over_breaks (held_or_recoverable p) x s.1) t, on_told _ 10 z)
 
   near_leaves : (a : Act) → near_fault a p b ≡ 0 → Leaves a p b

@@ -10,7 +10,7 @@ use lib.ListN.{length}
 use Rattle.lists.specs.Lists.{range, on, first, any, filter}
 use Rattle.picture.specs.Picture.{Picture, picture_of}
 use Rattle.picture.specs.Faults.{picture_fault}
-use Rattle.network.specs.Words.{outside}
+use Rattle.network.specs.Words.{without_block}
 use Rattle.network.specs.Tests.{is_near_held}
 use Rattle.network.specs.Repeats.{Repeated}
 use Rattle.network.proofs.Repeats.{same_slot, same_slots, same_blocks, same_block, same_held, repeated_marks, same_protected}
@@ -28,8 +28,8 @@ module _ {p q : Picture} (r : Repeated p q) (b : ℕ) where
   unfolding changes block_slots
   changes_same a = λ i. any (λ v. not (eqb (after a (same_slot r i v).state) (same_slot r i v).state)) (range (b * r.block_size i + 1) (r.block_size i))
 
-  over_same : {held held' : ℕ → Bool} → held ≡ held' → cuts_over held p b ≡ cuts_over held' q b
-  unfolding cuts_over outside
+  over_same : {held held' : ℕ → Bool} → held ≡ held' → cuts_over p held b ≡ cuts_over q held' b
+  unfolding cuts_over without_block
   over_same e = λ i. same_protected r i (repeated_marks r i (e i)) (repeated_marks r i (λ v. e i v && not (same_block r i b v)))
 
   unfreed_same : held_or_recoverable p ≡ held_or_recoverable q

@@ -6,7 +6,7 @@ use Prim.Native.Nat.{ℕ}
 use lib.Dec.{T}
 use Rattle.lists.proofs.Tests.{T?, T-or-l}
 use Rattle.picture.specs.Picture.{Picture, endpoint_of}
-use Rattle.network.specs.Words.{is_held, outside, Served, Named}
+use Rattle.network.specs.Words.{is_held, without_block, Served, Named}
 use Rattle.network.specs.Tests.{marks, served}
 use Rattle.network.proofs.Service.{marked_served, served_marked}
 use Rattle.network.proofs.Evicting.{served_more}
@@ -26,15 +26,15 @@ module _ (p : Picture) (b c : ℕ) where
 
   module _ (n : Named p) (guarded : T (endpoint_of p c).protected) where
     -- a protected endpoint that these locations serve and that keeps a chain without the block is served without the block
-    spared_without : {held : ℕ → Bool} → SparesOver held p b → Served p held c → Served p (outside p b held) c
+    spared_without : {held : ℕ → Bool} → SparesOver p held b → Served p held c → Served p (without_block p held b) c
     spared_without {held} s before =
-        by_cases (T? (served p (marks p (outside p b held)) c)) (marked_served p (outside p b held) c)
+        by_cases (T? (served p (marks p (without_block p held b)) c)) (marked_served p (without_block p held b) c)
         (λ m.
         let own = n.services before.location c before.serves in
         absurd (s (record { endpoint = c; some = own.1; most = own.2; protected = guarded; cut = record { before = before; after = λ t. m (served_marked n t) } })))
 
     -- and so after an act that leaves those locations
-    spared_after : (a : Act) {held more : ℕ → Bool} → ((v : ℕ) → more v ≡ outside p b held v) → SparesOver held p b → Served p held c → Served (act_on a p b) more c
+    spared_after : (a : Act) {held more : ℕ → Bool} → ((v : ℕ) → more v ≡ without_block p held b v) → SparesOver p held b → Served p held c → Served (act_on a p b) more c
     spared_after a e s before = acted_serves a (λ v t. subst T (sym (e v)) t) (spared_without s before)
 
     -- one law for any act

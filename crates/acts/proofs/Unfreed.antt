@@ -15,7 +15,7 @@ use Rattle.picture.specs.declared.State.TheVariants.{Held, Recoverable, Freed}
 use Rattle.picture.specs.Layout.{state_number}
 use Rattle.picture.specs.Picture.{Picture, Slot, slot_of}
 use Rattle.picture.proofs.Starts.{slot_past}
-use Rattle.network.specs.Words.{in_block, is_held, outside}
+use Rattle.network.specs.Words.{in_block, is_held, without_block}
 use Rattle.acts.specs.declared.Act.{Act}
 use Rattle.acts.specs.declared.Act.TheVariants.{Evict, Reload, Free}
 use Rattle.acts.specs.Acts.{after, held_or_recoverable, slot_after, act_on}
@@ -87,8 +87,8 @@ module _ (p : Picture) (b : ℕ) where
       go true = r.returns (slot_of p (suc i)).state
       go false = refl
 
-  pub freed_away : (v : ℕ) → held_or_recoverable (act_on Free p b) v ≡ outside p b (held_or_recoverable p) v
-  unfolding held_or_recoverable is_held outside after
+  pub freed_away : (v : ℕ) → held_or_recoverable (act_on Free p b) v ≡ without_block p (held_or_recoverable p) b v
+  unfolding held_or_recoverable is_held without_block after
   freed_away zero = sym (ap not (origin_apart p b))
   freed_away (suc i) = acted_unfreed Free i ∙ go (in_block p b (suc i)) (slot_of p (suc i)).state
     where

@@ -3,7 +3,7 @@ use Rattle.std.specs.Prelude.{Bool, not, ◌&&◌, ◌||◌, List, [], ◌∷◌
 use Rattle.lists.specs.Lists.{range, on, first, any}
 use Rattle.picture.specs.Picture.{Picture, picture_of, slot_of}
 use Rattle.picture.specs.Faults.{picture_fault}
-use Rattle.network.specs.Words.{slot_count, is_held, outside}
+use Rattle.network.specs.Words.{slot_count, is_held, without_block}
 use Rattle.network.specs.Tests.{marks, cut_protected}
 use Rattle.weigh.specs.Weighing.{block_fault}
 use Rattle.acts.specs.declared.Act.{Act}
@@ -15,14 +15,14 @@ unfoldable pub changes : Act → Picture → ℕ → Bool
 changes a p b = any (λ v. not (eqb (after a (slot_of p v).state) (slot_of p v).state)) (block_slots p b)
 
 -- without the slots of block b a protected endpoint loses all its chains through the locations of `held`
-unfoldable pub cuts_over : (ℕ → Bool) → Picture → ℕ → Bool
-cuts_over held p b = cut_protected p (marks p held) (marks p (outside p b held))
+unfoldable pub cuts_over : Picture → (ℕ → Bool) → ℕ → Bool
+cuts_over p held b = cut_protected p (marks p held) (marks p (without_block p held b))
 
 -- 10: evict is judged over what is held, free over that and over what is held or recoverable
 unfoldable pub cut_fault : Act → Picture → ℕ → ℕ
-cut_fault Evict p b = on (cuts_over (is_held p) p b) 10
+cut_fault Evict p b = on (cuts_over p (is_held p) b) 10
 cut_fault Reload p b = 0
-cut_fault Free p b = on (cuts_over (is_held p) p b || cuts_over (held_or_recoverable p) p b) 10
+cut_fault Free p b = on (cuts_over p (is_held p) b || cuts_over p (held_or_recoverable p) b) 10
 
 -- 12: reload adds a held near slot and more than κ are then held
 unfoldable pub near_fault : Act → Picture → ℕ → ℕ

@@ -130,7 +130,7 @@ fn cuts_over(p: &Picture, tables: &Tables, slots: Row, b: usize) -> bool
     requires block { b < block_count (picture_of p.now) }
     requires tables { TablesOf (picture_of p.now) tables.now }
     requires slots { (held : ℕ → Bool) × SlotRowOf (picture_of p.now) held slots }
-    ensures { (held : ℕ → Bool) → SlotRowOf (picture_of p.now) held slots → result ≡ cuts_over held (picture_of p.now) b }
+    ensures { (held : ℕ → Bool) → SlotRowOf (picture_of p.now) held slots → result ≡ cuts_over (picture_of p.now) held b }
 {
     let h = p.header();
     let n = h.slots;

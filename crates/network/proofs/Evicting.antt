@@ -7,7 +7,7 @@ use Rattle.lists.proofs.Tests.{and_T}
 use Rattle.graph.specs.Chains.{Chain}
 use Rattle.graph.specs.Chains.Chain.{origin, step}
 use Rattle.picture.specs.Picture.{Picture}
-use Rattle.network.specs.Words.{in_block, is_held, outside, held_without, weight_of, Served, Named}
+use Rattle.network.specs.Words.{in_block, is_held, without_block, held_without, weight_of, Served, Named}
 use Rattle.network.specs.Tests.{marks, served, cut, sum_where, served_weight, weighed}
 use Rattle.network.proofs.Service.{marked_served, served_marked}
 use Rattle.network.proofs.Weights.{where_split}
@@ -31,7 +31,7 @@ module _ {less more : ℕ → Bool} (implies : (v : ℕ) → T (less v) → T (m
 
 -- what is held without a block is held with it
 pub without_held : (p : Picture) (b v : ℕ) → T (held_without p b v) → T (is_held p v)
-unfolding outside
+unfolding without_block
 without_held p b v t = (and_T (is_held p v) (not (in_block p b v)) t).0
 
 -- so what is served now is what is served without the block, and what the block cuts

@@ -15,7 +15,7 @@ use Rattle.graph.specs.Rounds.{reached_in}
 use Rattle.picture.specs.declared.Link.{Link}
 use Rattle.picture.specs.Picture.{Slot, Endpoint, Picture, slot_of, endpoint_of}
 use Rattle.picture.specs.Rules.{no_link}
-use Rattle.network.specs.Words.{slot_count, endpoint_count, block_count, in_block, is_held, outside, held_without, joins, weight_of, Served, Loses, Cuts, Sum, ServedWeight, Loss, CutCount, LosesProtected, CutsProtected, Candidate}
+use Rattle.network.specs.Words.{slot_count, endpoint_count, block_count, in_block, is_held, without_block, held_without, joins, weight_of, Served, Loses, Cuts, Sum, ServedWeight, Loss, CutCount, LosesProtected, CutsProtected, Candidate}
 use Rattle.network.specs.Tests.{marks, served, cut, cut_protected, sum_where, served_weight, weighed, is_near_held, is_candidate, candidates}
 use Rattle.network.specs.Repeats.{Repeats, same, again, Repeated}
 use Rattle.network.proofs.Named.{joins_at}
@@ -128,7 +128,7 @@ module _ {p q : Picture} (r : Repeated p q) where
       go (suc j) = λ i. eqb (same_slot i (suc j)).state 0
 
   pub same_left : held_without p ≡ held_without q
-  unfolding outside
+  unfolding without_block
   same_left = λ i b v. same_held i v && not (same_block i b v)
 
   same_endpoint : endpoint_of p ≡ endpoint_of q

@@ -28,13 +28,13 @@ unfoldable pub is_held : Picture → ℕ → Bool
 is_held p zero = true
 is_held p (suc i) = eqb (slot_of p (suc i)).state 0
 
--- the locations of `held` that are not in block b
-unfoldable pub outside : Picture → ℕ → (ℕ → Bool) → ℕ → Bool
-outside p b held v = held v && not (in_block p b v)
+-- the locations of `held` without the slots of block b
+unfoldable pub without_block : Picture → (ℕ → Bool) → ℕ → ℕ → Bool
+without_block p held b v = held v && not (in_block p b v)
 
 -- held once b's slots are not
 abbrev pub held_without : Picture → ℕ → ℕ → Bool
-held_without p b = outside p b (is_held p)
+held_without p = without_block p (is_held p)
 
 -- one of the links leads from a to b: a repeated link counts once
 unfoldable pub joins : List Link → ℕ → ℕ → Bool
@@ -46,7 +46,7 @@ pub record Served (p : Picture) (held : ℕ → Bool) (c : ℕ) : Type 0 where
   pub serves : T (joins p.service_links location c)
   pub reached : Reached (joins p.links) held location
 
--- an endpoint loses its service between two moments: it is served where the first locations hold the bundle, and not where the second do
+-- an endpoint loses its service: it is served where the locations of `earlier` hold the bundle, and not where those of `later` do
 pub record Loses (p : Picture) (earlier later : ℕ → Bool) (c : ℕ) : Type 0 where
   pub before : Served p earlier c
   pub after : ¬ Served p later c

@@ -14,7 +14,7 @@ use Rattle.graph.specs.Chains.{Chain, Reached}
 use Rattle.graph.specs.Chains.Chain.{origin, step}
 use Rattle.graph.proofs.Chains.{chain_held}
 use Rattle.picture.specs.Picture.{Picture}
-use Rattle.network.specs.Words.{in_block, is_held, outside, held_without, joins, Served, Cuts}
+use Rattle.network.specs.Words.{in_block, is_held, without_block, held_without, joins, Served, Cuts}
 use Rattle.network.proofs.Evicting.{chain_more, without_held}
 use Rattle.price.specs.Feeders.{Flat, OnlyFeeder}
 
@@ -49,14 +49,14 @@ module _ (p : Picture) (h : 1 ≤ p.block_size) where
 
 -- a slot that is reached without a block is not of it
 reached_outside : (p : Picture) (b v : ℕ) → 1 ≤ v → Reached (joins p.links) (held_without p b) v → ¬ T (in_block p b v)
-unfolding outside
+unfolding without_block
 reached_outside p b v l r = T_not (in_block p b v) (and_T (is_held p v) (not (in_block p b v)) (chain_held r.chain l)).1
 
 module _ {p : Picture} where
   -- in a flat network a reached location outside the block is reached without the block
   reached_without : Flat p → (b : ℕ) {v : ℕ} → T (not (in_block p b v)) → Reached (joins p.links) (is_held p) v
       → Reached (joins p.links) (held_without p b) v
-  unfolding outside
+  unfolding without_block
   reached_without f b {v} n r =
       ⊎_elim (λ e. rw e (record { links = 0; chain = origin }))
       (λ s. reached_flat p s.0 (T_and (is_held p v) (not (in_block p b v)) s.1 n)) (flat_reached f r)

@@ -22,7 +22,7 @@ use Rattle.picture.specs.Picture.{Picture, picture_of, endpoint_of}
 use Rattle.picture.specs.Inner.{Read}
 use Rattle.picture.proofs.Facts.{read_limited}
 use Rattle.network.specs.declared.Tables.{Tables}
-use Rattle.network.specs.Words.{endpoint_count, in_block, is_held, outside, held_without, joins, weight_of, Named}
+use Rattle.network.specs.Words.{endpoint_count, in_block, is_held, without_block, held_without, joins, weight_of, Named}
 use Rattle.network.specs.Tests.{marks, served, cut, cut_protected, sum_where, served_weight, weighed}
 use Rattle.network.specs.Rows.{RowsOf, SlotRowOf, EndpointsOf, TablesOf, block_range}
 use Rattle.network.proofs.Service.{marked_served, served_marked}
@@ -44,8 +44,8 @@ module _ {p : Picture} {held : ℕ → Bool} {slots : List ℕ} (s : SlotRowOf p
   pub now_held : (v : ℕ) → without no_range (held_in slots) v ≡ held v
   now_held v = none_without (held_in slots) v ∙ s.same v
 
-  pub left_held : (b v : ℕ) → without (block_range p.block_size b) (held_in slots) v ≡ outside p b held v
-  unfolding without in_range outside in_block
+  pub left_held : (b v : ℕ) → without (block_range p.block_size b) (held_in slots) v ≡ without_block p held b v
+  unfolding without in_range without_block in_block
   left_held b v = rw (s.same v)
 
   -- so are walks through these slots
@@ -54,7 +54,7 @@ module _ {p : Picture} {held : ℕ → Bool} {slots : List ℕ} (s : SlotRowOf p
     now_walked = walked_over t now_held
 
     pub left_walked : {size : ℕ} (b : ℕ) → p.block_size ≡ size → Walked (linked_in table) (without (block_range size b) (held_in slots)) reaches parent depth
-        → Walked (joins p.links) (outside p b held) reaches parent depth
+        → Walked (joins p.links) (without_block p held b) reaches parent depth
     left_walked b e w = walked_over t (left_held b) (rw (← e) at w)
 
 module _ {bs : List ℕ} {h : Header} (read : Read bs h) {held : ℕ → Bool} {slots : List ℕ} (s : SlotRowOf (picture_of bs) held slots) where

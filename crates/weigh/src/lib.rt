@@ -77,7 +77,7 @@ pub fn lost_between(
 }
 
 // Weighs a block of an accepted picture.
-pub fn weigh_block(p: &Picture, b: usize) -> Weights
+fn weigh_block(p: &Picture, b: usize) -> Weights
     requires { b < block_count (picture_of p.now) }
     ensures { result ≡ weights_of (picture_of p.now) b }
 {
