@@ -112,7 +112,8 @@ enum blockplan_refusal {
     BLOCKPLAN_REFUSED_NO_BLOCK = 8,          /* the acts: no block of this number */
     BLOCKPLAN_REFUSED_BUFFER = 9,            /* choose, write, generate: the buffer is under the length of the evidence, or of the
                                                 picture; price: there are fewer counters than BLOCKPLAN_BLOCKS_MAX */
-    BLOCKPLAN_REFUSED_PROTECTED = 10,        /* evict, free: a protected endpoint would be cut */
+    BLOCKPLAN_REFUSED_PROTECTED = 10,        /* evict, free: a protected endpoint would be cut; free: or would lose its last chain of
+                                                held or recoverable slots */
     BLOCKPLAN_REFUSED_NO_CHANGE = 11,        /* the acts: no slot would change */
     BLOCKPLAN_REFUSED_NEAR = 12,             /* reload: it adds a held near slot, and more than the near limit would be held */
     BLOCKPLAN_REFUSED_FORM = 13,             /* check: length, edition or candidate count wrong, a section of another block, a verdict or
@@ -147,9 +148,11 @@ int32_t blockplan_check(const uint8_t *picture, size_t picture_length, const uin
  * The acts change the states of one block's slots in the lent picture, and no other bit. Each returns 0 when it is done. Refuses with the
  * picture's numbers, then 8, 11, and then evict and free with 10, reload with 12.
  *
- * evict: held slots become recoverable. reload: recoverable slots become held. free: held and recoverable slots become freed, for good.
+ * evict: held slots become recoverable. reload: recoverable slots become held. free: held and recoverable slots become freed, for good. So
+ * free gets 10 also where a protected endpoint that is not served, but could be once slots are reloaded, could be no more.
  *
- * Through any list of these calls on a picture that they accept, refused ones among them, a protected endpoint that is served stays served.
+ * Through any list of these calls on a picture that they accept, refused ones among them, a protected endpoint that is served stays served,
+ * and one with a chain of held or recoverable slots keeps one.
  */
 int32_t blockplan_evict(uint8_t *picture, size_t picture_length, uint32_t block);
 int32_t blockplan_reload(uint8_t *picture, size_t picture_length, uint32_t block);

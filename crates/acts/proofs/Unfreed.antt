@@ -1,4 +1,5 @@
--- What is held or recoverable after an act: evict and reload leave it as it was, and free takes the block from it. Assumes nothing.
+-- What is held or recoverable, by a slot's state; and after an act: evict and reload leave it as it was, and free takes the block from it. Assumes
+-- nothing.
 use mathlib.Core.Path.{◌≡◌, refl, sym, ap, ◌∙◌, subst}
 use mathlib.Core.Bool.{Bool, true, false, not, ◌&&◌, ◌||◌, cond, and-true, and-false, or-true}
 use mathlib.Core.Logic.{by_cases}
@@ -73,7 +74,7 @@ reload_returns = record { returns = λ s. go s (eqb s 1) refl }
     go s false e = refl
 
 module _ (p : Picture) (b : ℕ) where
-  -- a slot is held or recoverable by its state after the act, and the origin is held
+  -- a slot is after an act what the state is that it then has
   acted_unfreed : (a : Act) (i : ℕ) → held_or_recoverable (act_on a p b) (suc i) ≡ unfreed (cond (in_block p b (suc i)) (after a (slot_of p (suc i)).state) (slot_of p (suc i)).state)
   unfolding held_or_recoverable is_held slot_after
   acted_unfreed a i = ap (λ (s : Slot). eqb s.state 0 || eqb s.state 1) (slot_acted a p b (suc i))

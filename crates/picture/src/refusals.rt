@@ -28,7 +28,7 @@ pub enum Refusal {
     NoBlock,
     // Choose, write, generate: the buffer is under the length of the evidence, or of the picture. Price for C: there are fewer than sixty counters.
     Buffer,
-    // Evict, free: a protected endpoint would be cut.
+    // Evict, free: a protected endpoint would be cut. Free: one would lose its last chain through held or recoverable slots.
     Protected,
     // The acts: no slot would change.
     NoChange,
