@@ -1,7 +1,7 @@
 // The acts on a block of a lent picture: evict, reload and free.
 #![tactic(auto)]
 
-ghost use Rattle.std.specs.Prelude.{Bool, ℕ, ◌≡◌, ◌&&◌, ◌||◌, not, [], ◌≤◌, ◌<◌, eqb};
+ghost use Rattle.std.specs.Prelude.{Bool, ℕ, ◌≡◌, ◌&&◌, ◌||◌, not, cond, [], ◌≤◌, ◌<◌, eqb};
 ghost use Rattle.lists.specs.Lists.{range, any, outcome};
 ghost use Rattle.picture.specs.Refusals.{fault_of};
 ghost use Rattle.picture.specs.Layout.{state_number};
@@ -150,49 +150,32 @@ fn cuts_over(p: &Picture, tables: &Tables, slots: Row, b: usize) -> bool
     lost.mark == 1
 }
 
-// An evict of block b cuts no protected endpoint.
-// Kept: compiled into the act, this or the next makes a reload take 33,272 bytes of stack in place of 4,520.
-#[inline(never)]
+// Giving up block b cuts no protected endpoint; given up for good, by a free, it takes from none the last way that could have come back.
 #[tactic(auto, unfolding(crate::specs::Faults::cut_fault, lists::specs::Lists::on))]
-fn judge_evict(p: &Picture, b: usize) -> Result<(), Refusal>
+fn judge_block_cut(p: &Picture, b: usize, for_good: bool) -> Result<(), Refusal>
     requires { b < block_count (picture_of p.now) }
-    ensures { fault_of result ≡ cut_fault Act.Evict (picture_of p.now) b }
+    ensures { fault_of result ≡ cut_fault (cond for_good Act.Free Act.Evict) (picture_of p.now) b }
 {
     let mut tables = Tables::empty();
     tables.fill(p);
     let held = network::slot_rows(p).held;
-    if cuts_over(p, &tables, held, b) {
+    if cuts_over(p, &tables, held, b) || for_good && cuts_over(p, &tables, unfreed_slots(p), b) {
         return Err(Refusal::Protected);
     }
     Ok(())
 }
 
-// Nor does a free, and none loses the last way that could have come back.
-#[inline(never)]
-#[tactic(auto, unfolding(crate::specs::Faults::cut_fault, lists::specs::Lists::on))]
-fn judge_free(p: &Picture, b: usize) -> Result<(), Refusal>
-    requires { b < block_count (picture_of p.now) }
-    ensures { fault_of result ≡ cut_fault Act.Free (picture_of p.now) b }
-{
-    let mut tables = Tables::empty();
-    tables.fill(p);
-    let held = network::slot_rows(p).held;
-    if cuts_over(p, &tables, held, b) || cuts_over(p, &tables, unfreed_slots(p), b) {
-        return Err(Refusal::Protected);
-    }
-    Ok(())
-}
-
-// What an act on block b cuts is no protected endpoint. A reload cuts nothing.
+// The same of an act: a reload cuts nothing.
+// Kept: with one arm for the other two weighing is compiled into the act, and a reload then takes 33,272 bytes of stack in place of 4,520.
 #[tactic(auto, unfolding(crate::specs::Faults::cut_fault))]
 fn judge_cut(p: &Picture, a: Act, b: usize) -> Result<(), Refusal>
     requires { b < block_count (picture_of p.now) }
     ensures { fault_of result ≡ cut_fault a (picture_of p.now) b }
 {
     match a {
-        Act::Evict => judge_evict(p, b),
+        Act::Evict => judge_block_cut(p, b, false),
         Act::Reload => Ok(()),
-        Act::Free => judge_free(p, b),
+        Act::Free => judge_block_cut(p, b, true),
     }
 }
 
