@@ -3,7 +3,7 @@
 use std::ops::Range;
 
 use crate::picture::{pack, read, Picture, State};
-use crate::reach::Network;
+use crate::reach::{Network, HELD, HELD_OR_RECOVERABLE};
 use crate::refusals;
 
 /// Turns the block's held slots into recoverable ones.
@@ -14,7 +14,7 @@ pub fn evict(lent: &mut [u8], block: u32) -> Result<(), u8> {
         State::Held => State::Recoverable,
         other => other,
     })?;
-    judge_cut(&picture, &locations)?;
+    judge_cut(&picture, &locations, HELD)?;
     lent.copy_from_slice(&pack(&changed));
     Ok(())
 }
@@ -36,12 +36,15 @@ pub fn reload(lent: &mut [u8], block: u32) -> Result<(), u8> {
     Ok(())
 }
 
-/// Turns the block's held and recoverable slots into freed ones.
+/// Turns the block's held and recoverable slots into freed ones. No reload brings these back, so that
+/// what reloads could serve is judged besides what is served.
 pub fn free(lent: &mut [u8], block: u32) -> Result<(), u8> {
     let picture = read(lent)?;
     let locations = picture.named_block(block)?;
     let changed = with_states(&picture, &locations, |_| State::Freed)?;
-    judge_cut(&picture, &locations)?;
+    // An endpoint that is served over this block alone may have a recoverable slot elsewhere.
+    judge_cut(&picture, &locations, HELD)?;
+    judge_cut(&picture, &locations, HELD_OR_RECOVERABLE)?;
     lent.copy_from_slice(&pack(&changed));
     Ok(())
 }
@@ -63,8 +66,10 @@ fn with_states(
     Ok(changed)
 }
 
-fn judge_cut(picture: &Picture, locations: &Range<usize>) -> Result<(), u8> {
-    let (_, cut) = Network::new(picture).weigh(locations);
+/// A refusal if a protected endpoint has a chain over slots of these states and none without these
+/// locations.
+fn judge_cut(picture: &Picture, locations: &Range<usize>, carriers: &[State]) -> Result<(), u8> {
+    let (_, cut) = Network::over(picture, carriers).weigh(locations);
     if cut.mark == 1 {
         return Err(refusals::PROTECTED);
     }

@@ -1,33 +1,26 @@
-//! Lists of calls: those on case A by hand, what the promise over lists forbids and what it allows, and
-//! random ones, with the acts as they are and with wrong ones.
+//! Lists of calls: those on case A by hand, and what the promise over lists forbids and what it allows.
 
-use std::collections::BTreeSet;
-
-use crate::calls::{any_calls, broken_promise, make_all, Act, Call};
+use crate::calls::{broken_promise, make_all, Act, Call};
 use crate::edition::SECOND;
-use crate::networks::{network, Size, SHAPES};
-use crate::picture::{Endpoint, State};
-use crate::random::Random;
-use crate::random_tests::{fewest_links, served_by_words, small_networks, tied_networks};
-use crate::reach::NOTHING;
+use crate::picture::State;
 use crate::refusals::number_of;
 use crate::samples::{case_a, A_BYTES, SECOND_BYTES};
-use crate::{pack, read, Picture};
+use crate::{pack, Picture};
 
 use Act::{Evict, Free, Reload};
 
 /// The two bytes with A's states, worked out by hand. A near slot's three bits are 001 where it is held,
 /// 011 where it is recoverable and 101 where it is freed; four zeros of the first weight follow.
 const HELD: [u8; 2] = [0b_0010_0100, 0b_1001_0000];
-const RECOVERABLE: [u8; 2] = [0b_0110_1101, 0b_1011_0000];
+pub const RECOVERABLE: [u8; 2] = [0b_0110_1101, 0b_1011_0000];
 const BLOCK_1_RECOVERABLE: [u8; 2] = [0b_0010_0101, 0b_1011_0000];
-const BLOCK_1_FREED: [u8; 2] = [0b_0010_0110, 0b_1101_0000];
+pub const BLOCK_1_FREED: [u8; 2] = [0b_0010_0110, 0b_1101_0000];
 
 /// A call, the number it gets, 0 if it is done, and the states after it.
-type Row = (Act, u32, u8, [u8; 2]);
+pub type Row<S> = (Act, u32, u8, S);
 
 /// Case A's bytes in both editions, with this near limit and these states.
-fn cases(near_limit: u8, states: [u8; 2]) -> [Vec<u8>; 2] {
+pub fn cases(near_limit: u8, states: [u8; 2]) -> [Vec<u8>; 2] {
     let changed = |bytes: &[u8], near_limit_at: usize, states_at: usize| {
         let mut bytes = bytes.to_vec();
         bytes[near_limit_at] = near_limit;
@@ -37,29 +30,33 @@ fn cases(near_limit: u8, states: [u8; 2]) -> [Vec<u8>; 2] {
     [changed(&A_BYTES, 2, 7), changed(&SECOND_BYTES, 3, 8)]
 }
 
-/// Makes the calls on A with this near limit and these states, in both editions. Every byte beside the
-/// states must stay, and every moment keeps the promise to every later one.
-fn hold_by_hand(near_limit: u8, start: [u8; 2], rows: &[Row]) {
+/// Makes the calls on A with this near limit and these states, in both editions.
+pub fn hold_by_hand(near_limit: u8, start: [u8; 2], rows: &[Row<[u8; 2]>]) {
     for edition in 0..2 {
-        let expected = |states| cases(near_limit, states)[edition].clone();
-        let mut bytes = expected(start);
-        let mut moments = vec![bytes.clone()];
-        for (step, (act, block, number, states)) in rows.iter().enumerate() {
-            let answer = Call { act: *act, block: *block }.make(&mut bytes);
-            assert_eq!(number_of(answer), *number, "call {step}");
-            assert_eq!(bytes, expected(*states), "call {step}");
-            moments.push(bytes.clone());
-            for earlier in &moments {
-                assert_eq!(broken_promise(earlier, &bytes), None, "call {step}");
-            }
-        }
-        let calls: Vec<Call> = rows.iter().map(|row| Call { act: row.0, block: row.1 }).collect();
-        let mut whole = expected(start);
-        let answers = make_all(&mut whole, &calls);
-        let numbers = answers.into_iter().map(number_of);
-        assert!(numbers.eq(rows.iter().map(|row| row.2)));
-        assert_eq!(whole, bytes);
+        hold_list(|states| cases(near_limit, states)[edition].clone(), start, rows);
     }
+}
+
+/// Makes the calls on the bytes with these states. Every byte beside the states must stay, and every
+/// moment keeps the promise to every later one.
+pub fn hold_list<S: Copy>(bytes_with: impl Fn(S) -> Vec<u8>, start: S, rows: &[Row<S>]) {
+    let mut bytes = bytes_with(start);
+    let mut moments = vec![bytes.clone()];
+    for (step, (act, block, number, states)) in rows.iter().enumerate() {
+        let answer = Call { act: *act, block: *block }.make(&mut bytes);
+        assert_eq!(number_of(answer), *number, "call {step}");
+        assert_eq!(bytes, bytes_with(*states), "call {step}");
+        moments.push(bytes.clone());
+        for earlier in &moments {
+            assert_eq!(broken_promise(earlier, &bytes), None, "call {step}");
+        }
+    }
+    let calls: Vec<Call> = rows.iter().map(|row| Call { act: row.0, block: row.1 }).collect();
+    let mut whole = bytes_with(start);
+    let answers = make_all(&mut whole, &calls);
+    let numbers = answers.into_iter().map(number_of);
+    assert!(numbers.eq(rows.iter().map(|row| row.2)));
+    assert_eq!(whole, bytes);
 }
 
 #[test]
@@ -195,9 +192,11 @@ fn turn(picture: &mut Picture, slots: &[usize], state: State) {
 
 const LOST_1: &str = "endpoint 1 is protected and served before, not after";
 const LOST_2: &str = "endpoint 2 is protected and served before, not after";
+pub const GONE_1: &str = "endpoint 1 is protected and could be served before, not after";
+const GONE_2: &str = "endpoint 2 is protected and could be served before, not after";
 
 /// The sentence that is broken, a change to the earlier moment and what the later one has besides.
-const BROKEN: [(&str, Change, Change); 22] = [
+const BROKEN: [(&str, Change, Change); 26] = [
     ("edition is 1 before, 2 after", NONE, |p| p.edition = SECOND),
     ("block size is 2 before, 1 after", NONE, |p| p.block_size = 1),
     ("number of slots is 4 before, 6 after", NONE, |p| p.slots.resize(6, p.slots[0])),
@@ -229,6 +228,20 @@ const BROKEN: [(&str, Change, Change); 22] = [
     (LOST_2, |p| p.endpoints[1].protected = true, |p| turn(p, &[3, 4], State::Recoverable)),
     // Slot 3, which is still held, has its chain over slot 1.
     (LOST_2, protect_at_slot_3, |p| turn(p, &[1], State::Recoverable)),
+    // Endpoint 1 is protected and not served before.
+    (GONE_1, |p| turn(p, &[1, 2], State::Recoverable), |p| turn(p, &[1, 2], State::Freed)),
+    (
+        GONE_1,
+        |p| {
+            turn(p, &[1], State::Freed);
+            turn(p, &[2], State::Recoverable);
+            p.endpoints[0].weight = 0;
+        },
+        |p| turn(p, &[2], State::Freed),
+    ),
+    // A chain of a recoverable slot and a held one, of which either goes.
+    (GONE_2, wait_for_slot_1, |p| turn(p, &[1], State::Freed)),
+    (GONE_2, wait_for_slot_1, |p| turn(p, &[3], State::Freed)),
     (
         "slot 4 is freed before, not after",
         |p| turn(p, &[3, 4], State::Freed),
@@ -245,6 +258,12 @@ const BROKEN: [(&str, Change, Change); 22] = [
 fn protect_at_slot_3(picture: &mut Picture) {
     picture.endpoints[1].protected = true;
     picture.serving[2] = (3, 2);
+}
+
+/// Slot 3 has its chain over slot 1.
+fn wait_for_slot_1(picture: &mut Picture) {
+    protect_at_slot_3(picture);
+    turn(picture, &[1], State::Recoverable);
 }
 
 #[test]
@@ -268,16 +287,28 @@ fn bytes_that_are_no_picture_break_the_promise() {
 }
 
 /// What a list may do, by the earlier moment and what the later one has besides.
-const KEPT: [(Change, Change); 9] = [
+const KEPT: [(Change, Change); 12] = [
     (NONE, NONE),
     // Endpoint 2 is served before and not after, and is not protected.
     (NONE, |p| turn(p, &[4], State::Recoverable)),
     (NONE, |p| turn(p, &[3, 4], State::Freed)),
     // Endpoint 1 keeps one of its feeders.
     (NONE, |p| turn(p, &[1, 3], State::Freed)),
-    // Endpoint 1 is protected and not served before.
-    (|p| turn(p, &[1, 2], State::Recoverable), |p| turn(p, &[1, 2], State::Freed)),
-    // Nor is endpoint 2, in document 01's F: no link leads to slot 4.
+    // Endpoint 1 is protected and not served before, and keeps one of the slots that could.
+    (|p| turn(p, &[1, 2], State::Recoverable), |p| turn(p, &[1], State::Freed)),
+    // One of these is reloaded, and the other one freed.
+    (
+        |p| turn(p, &[1, 2], State::Recoverable),
+        |p| {
+            turn(p, &[1], State::Held);
+            turn(p, &[2], State::Freed);
+        },
+    ),
+    // No slot could serve it before.
+    (|p| turn(p, &[1, 2], State::Freed), |p| turn(p, &[3, 4], State::Freed)),
+    // Endpoint 2 could be served before and not after, and is not protected.
+    (|p| turn(p, &[3, 4], State::Recoverable), |p| turn(p, &[3, 4], State::Freed)),
+    // It is, but no link leads to slot 4: document 01's F.
     (
         |p| {
             p.links.truncate(3);
@@ -297,133 +328,5 @@ fn what_lists_may_do_breaks_no_promise() {
     for (row, (earlier, later)) in KEPT.into_iter().enumerate() {
         let [earlier, later] = two_moments(earlier, later);
         assert_eq!(broken_promise(&earlier, &later), None, "row {row}");
-    }
-}
-
-/// Pictures with lists of calls: small networks, such in which most endpoints hang on one block, and
-/// ones of middle size, all of both editions.
-fn random_lists(seed: u64, count: usize) -> impl Iterator<Item = (Vec<u8>, Vec<Call>)> {
-    let mut random = Random::new(seed);
-    let middle = (0..count).map(|_| {
-        let (size, shape) = (Size::middle(&mut random), *random.pick(&SHAPES));
-        network(&mut random, shape, size)
-    });
-    let middle: Vec<Picture> = middle.collect();
-    let networks = small_networks(seed, count).chain(tied_networks(seed, count)).chain(middle);
-    networks.map(move |picture| {
-        let length = random.between(20, 60);
-        (pack(&picture), any_calls(&mut random, picture.block_count(), length))
-    })
-}
-
-/// The bytes at the start and after each call, by this way to make one.
-fn moments(start: Vec<u8>, calls: &[Call], mut make: impl FnMut(&Call, &mut [u8])) -> Vec<Vec<u8>> {
-    let mut moments = vec![start];
-    for (step, call) in calls.iter().enumerate() {
-        moments.push(moments[step].clone());
-        make(call, &mut moments[step + 1]);
-    }
-    moments
-}
-
-#[test]
-fn random_lists_keep_the_promise() {
-    let (mut editions, mut numbers) = (BTreeSet::new(), BTreeSet::new());
-    for (start, calls) in random_lists(1, 200) {
-        editions.insert(start[0] >> 4);
-        let moments = moments(start, &calls, |call, bytes| {
-            numbers.insert(number_of(call.make(bytes)));
-        });
-        let middle = calls.len() / 2;
-        for (last, later) in moments.iter().enumerate() {
-            for first in [0, middle.min(last), last.saturating_sub(1)] {
-                let broken = broken_promise(&moments[first], later);
-                assert_eq!(broken, None, "from {first} to {last} of {calls:?}");
-            }
-        }
-    }
-    assert_eq!(editions, BTreeSet::from([1, 2]));
-    assert_eq!(numbers, BTreeSet::from([0, 8, 10, 11, 12]));
-}
-
-/// For each slot whether it is freed, and for each endpoint whether it is protected and served, by the
-/// words of document 01.
-fn lasting(bytes: &[u8]) -> (Vec<bool>, Vec<bool>) {
-    let picture = read(bytes).expect("an accepted picture");
-    let fewest = fewest_links(&picture, usize::MAX);
-    let is_lasting = |(endpoint, facts): (usize, &Endpoint)| {
-        facts.protected && served_by_words(&picture, &fewest, endpoint)
-    };
-    let freed = picture.slots.iter().map(|slot| slot.state == State::Freed).collect();
-    (freed, (1..).zip(&picture.endpoints).map(is_lasting).collect())
-}
-
-/// How many are so at the end that were not at the start. Those that are so at one moment must be so at
-/// the next one.
-fn added(moments: &[Vec<bool>]) -> usize {
-    for pair in moments.windows(2) {
-        assert!(pair[0].iter().zip(&pair[1]).all(|(before, after)| !before || *after));
-    }
-    let ends = moments[0].iter().zip(&moments[moments.len() - 1]);
-    ends.filter(|(before, after)| before != after).count()
-}
-
-#[test]
-fn what_is_freed_or_protected_and_served_once_stays_so() {
-    let (mut freed_since, mut served_since) = (0, 0);
-    for (start, calls) in random_lists(2, 100) {
-        let moments = moments(start, &calls, |call, bytes| {
-            let _ = call.make(bytes);
-        });
-        let (freed, served): (Vec<_>, Vec<_>) = moments.iter().map(|bytes| lasting(bytes)).unzip();
-        freed_since += added(&freed);
-        served_since += added(&served);
-    }
-    // Not all that lasts was there at the start.
-    assert!(freed_since > 100 && served_since > 10, "{freed_since} and {served_since}");
-}
-
-type Turn = fn(State) -> State;
-
-/// Turns a block's slots, whatever that cuts.
-fn turn_unjudged(lent: &mut [u8], block: u32, turned: Turn) {
-    let mut picture = read(lent).expect("an accepted picture");
-    for location in picture.named_block(block).unwrap_or(NOTHING) {
-        let slot = &mut picture.slots[location - 1];
-        slot.state = turned(slot.state);
-    }
-    lent.copy_from_slice(&pack(&picture));
-}
-
-fn recoverable_if_held(state: State) -> State {
-    match state {
-        State::Held => State::Recoverable,
-        other => other,
-    }
-}
-
-/// Each act in turn does not look at what it cuts or, reload, at what was freed; the others are right.
-#[test]
-fn wrong_acts_break_the_promise_on_random_lists() {
-    let wrong: [(Act, Turn, &str); 3] = [
-        (Free, |_| State::Freed, "is protected and served before, not after"),
-        (Evict, recoverable_if_held, "is protected and served before, not after"),
-        (Reload, |_| State::Held, "is freed before, not after"),
-    ];
-    for (act, turned, sentence) in wrong {
-        let mut found = [0, 0];
-        for (start, calls) in random_lists(3, 100) {
-            let moments = moments(start, &calls, |call, bytes| match call.act == act {
-                true => turn_unjudged(bytes, call.block, turned),
-                false => call.make(bytes).unwrap_or(()),
-            });
-            for (count, first) in found.iter_mut().zip([0, calls.len() / 2]) {
-                if let Some(broken) = broken_promise(&moments[first], &moments[calls.len()]) {
-                    assert!(broken.ends_with(sentence), "{act:?}: {broken}");
-                    *count += 1;
-                }
-            }
-        }
-        assert!(found.iter().all(|count| *count > 0), "{act:?}: {found:?}");
     }
 }

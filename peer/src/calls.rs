@@ -1,10 +1,12 @@
-//! Lists of calls of the acts, what holds between two moments of such a list, and random ones.
+//! Lists of calls of the acts, what holds between two moments of such a list, random ones, and networks
+//! for them.
 
 use std::fmt::Debug;
 
+use crate::networks::{network, Size, SHAPES};
 use crate::picture::{read, Picture, State};
 use crate::random::Random;
-use crate::reach::{self, Network};
+use crate::reach::{no_longer_served, Network, HELD, HELD_OR_RECOVERABLE};
 use crate::{evict, free, reload};
 
 #[derive(Clone, Copy, Debug, PartialEq, Eq)]
@@ -39,9 +41,10 @@ pub fn make_all(lent: &mut [u8], calls: &[Call]) -> Vec<Result<(), u8>> {
     calls.iter().map(|call| call.make(lent)).collect()
 }
 
-/// The sentence of request C-15 that does not hold from earlier to later bytes of one list of calls,
-/// or nothing. What calls leave alone must be equal, each protected endpoint that is served earlier
-/// must be served later, and each slot that is freed earlier must be freed later.
+/// The sentence of requests C-15 and C-19 that does not hold from earlier to later bytes of one list of
+/// calls, or nothing. What calls leave alone must be equal, each protected endpoint that is served
+/// earlier must be served later, each that could be, by a chain of held or recoverable slots, must have
+/// such a chain later, and each slot that is freed earlier must be freed later.
 pub fn broken_promise(earlier: &[u8], later: &[u8]) -> Option<String> {
     let (earlier, later) = match (read(earlier), read(later)) {
         (Ok(earlier), Ok(later)) => (earlier, later),
@@ -50,7 +53,8 @@ pub fn broken_promise(earlier: &[u8], later: &[u8]) -> Option<String> {
     };
     other_size(&earlier, &later)
         .or_else(|| other_row(&earlier, &later))
-        .or_else(|| no_longer_served(&earlier, &later))
+        .or_else(|| cut_off(&earlier, &later, HELD, "served"))
+        .or_else(|| cut_off(&earlier, &later, HELD_OR_RECOVERABLE, "could be served"))
         .or_else(|| no_longer_freed(&earlier, &later))
 }
 
@@ -94,10 +98,12 @@ fn other_field<R, F: Debug + PartialEq>(
     Some(format!("{name} {row} is {before:?} before, {after:?} after"))
 }
 
-fn no_longer_served(earlier: &Picture, later: &Picture) -> Option<String> {
-    let (before, after) = (Network::new(earlier).served_now(), Network::new(later).served_now());
-    let lost = reach::no_longer_served(&before, &after).find(|&at| earlier.endpoints[at].protected)?;
-    Some(format!("endpoint {} is protected and served before, not after", lost + 1))
+/// A protected endpoint that has a chain over slots of these states earlier and none later.
+fn cut_off(earlier: &Picture, later: &Picture, carriers: &[State], what: &str) -> Option<String> {
+    let has_chain = |picture| Network::over(picture, carriers).served_now();
+    let (before, after) = (has_chain(earlier), has_chain(later));
+    let lost = no_longer_served(&before, &after).find(|&at| earlier.endpoints[at].protected)?;
+    Some(format!("endpoint {} is protected and {what} before, not after", lost + 1))
 }
 
 fn no_longer_freed(earlier: &Picture, later: &Picture) -> Option<String> {
@@ -133,4 +139,25 @@ fn any_call(random: &mut Random, blocks: usize, frees: usize) -> Call {
 pub fn no_blocks(random: &mut Random, blocks: u32) -> [u32; 5] {
     let cut_off = *random.pick(&[1 << 8, 1 << 16, 1 << 24]) + random.below(blocks as usize) as u32;
     [blocks, blocks + 1, 1 << 31, u32::MAX, cut_off]
+}
+
+/// A network in which protected endpoints often wait for a reload, or are served and have recoverable
+/// slots besides. Where there are links enough, each slot has one from the origin or a lower slot.
+pub fn waiting(random: &mut Random, size: Size) -> Picture {
+    use State::{Freed, Held, Recoverable};
+    let mixes =
+        [[Held, Held, Recoverable], [Held, Recoverable, Recoverable], [Held, Recoverable, Freed]];
+    let (shape, mix) = (*random.pick(&SHAPES), random.pick(&mixes));
+    let mut picture = network(random, shape, size);
+    for slot in &mut picture.slots {
+        slot.state = *random.pick(mix);
+    }
+    for (slot, link) in (1..=size.slots).zip(&mut picture.links) {
+        let from = if random.once_in(2) { 0 } else { random.below(slot) };
+        *link = (from as u16, slot as u16);
+    }
+    for endpoint in &mut picture.endpoints {
+        endpoint.protected = random.once_in(3);
+    }
+    picture
 }

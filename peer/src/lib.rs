@@ -42,9 +42,13 @@ pub use picture::{pack, read, Picture};
 pub use price::{price, price_into};
 
 #[cfg(test)]
+mod call_random_tests;
+#[cfg(test)]
 mod call_tests;
 #[cfg(test)]
 mod edition_tests;
+#[cfg(test)]
+mod free_tests;
 #[cfg(test)]
 mod generate_tests;
 #[cfg(test)]

@@ -31,12 +31,21 @@ pub fn tied_networks(seed: u64, count: usize) -> impl Iterator<Item = Picture> {
     })
 }
 
+/// The fewest links from the origin to each location over held slots, see `fewest_over`.
+pub fn fewest_links(picture: &Picture, evicted: usize) -> Vec<Option<u16>> {
+    fewest_over(picture, evicted, |state| state == State::Held)
+}
+
 /// The fewest links from the origin to each location, found by following every link until nothing
 /// changes any more; no search, no order.
-pub fn fewest_links(picture: &Picture, evicted: usize) -> Vec<Option<u16>> {
+pub fn fewest_over(
+    picture: &Picture,
+    evicted: usize,
+    is_open: impl Fn(State) -> bool,
+) -> Vec<Option<u16>> {
     let carries = |slot: usize| {
         let block = (slot - 1) / usize::from(picture.block_size);
-        picture.slots[slot - 1].state == State::Held && block != evicted
+        is_open(picture.slots[slot - 1].state) && block != evicted
     };
     let mut fewest = vec![None; picture.slots.len() + 1];
     fewest[0] = Some(0);

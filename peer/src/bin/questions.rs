@@ -6,7 +6,7 @@ use std::env;
 use std::fmt::Display;
 use std::process::exit;
 
-use peer::calls::{any_calls, make_all, Call, ACTS};
+use peer::calls::{any_calls, make_all, waiting, Act, Call, ACTS};
 use peer::choice::{Plan, Section};
 use peer::edition::{EDITIONS, FIRST, MAX_BLOCK_SIZE, MAX_ENDPOINTS, MAX_LINKS};
 use peer::faults::{wrong_ends, FAULTS};
@@ -15,6 +15,7 @@ use peer::networks::{any_edition, flat, network, tied, Size, SHAPES};
 use peer::picture::{Endpoint, Picture, State};
 use peer::price::{any_records, pack_records};
 use peer::random::Random;
+use peer::reach::{Network, HELD, HELD_OR_RECOVERABLE};
 use peer::refusals::number_of;
 use peer::{
     check, choose, generate, lists_of, pack, price, samples, show, weigh, write, Asked, Edition, Lists,
@@ -148,13 +149,15 @@ fn ask(table: &mut Table, random: &mut Random, picture: &Picture, bytes: &[u8], 
     }
     for act in ACTS {
         let block = random.below(picture.block_count()) as u32;
-        let mut lent = bytes.to_vec();
-        let number = number_of(Call { act, block }.make(&mut lent));
-        table.add(
-            format!("act {act:?} {name} {block}"),
-            &[vec![u32::from(number)], numbers(&lent)].concat(),
-        );
+        ask_act(table, bytes, &Call { act, block });
     }
+}
+
+fn ask_act(table: &mut Table, bytes: &[u8], call: &Call) {
+    let mut lent = bytes.to_vec();
+    let number = number_of(call.make(&mut lent));
+    let question = format!("act {:?} {} {}", call.act, list(bytes), call.block);
+    table.add(question, &[vec![u32::from(number)], numbers(&lent)].concat());
 }
 
 fn ask_pictures(table: &mut Table, random: &mut Random) {
@@ -469,6 +472,41 @@ fn ask_calls(table: &mut Table, random: &mut Random) {
     }
 }
 
+/// A few slots, of which some block cuts a protected endpoint off by chains over the first states and
+/// none by chains over the second.
+fn small_waiting(random: &mut Random, edition: Edition, [first, second]: [&[State]; 2]) -> Picture {
+    loop {
+        let block_size = random.between(1, 2);
+        let slots = block_size * random.between(2, 3);
+        let (endpoints, serving) = (random.between(1, 3), random.between(2, 5));
+        let size = Size { edition, block_size, slots, endpoints, links: slots + 1, serving };
+        let picture = waiting(random, size);
+        let mark = |states, block| {
+            let (_, cut) = Network::over(&picture, states).weigh(&picture.block_locations(block));
+            cut.mark
+        };
+        if (0..picture.block_count()).any(|block| mark(first, block) > mark(second, block)) {
+            return picture;
+        }
+    }
+}
+
+/// Free and evict of each block where either judgement of free decides alone, and a list in which all
+/// blocks are freed that may be, the others reloaded, and all that may be freed again.
+fn ask_frees(table: &mut Table, random: &mut Random) {
+    for edition in EDITIONS {
+        for states in [[HELD, HELD_OR_RECOVERABLE], [HELD_OR_RECOVERABLE, HELD]] {
+            let picture = small_waiting(random, edition, states);
+            let bytes = pack(&picture);
+            let each = |act| (0..picture.block_count() as u32).map(move |block| Call { act, block });
+            each(Act::Free).chain(each(Act::Evict)).for_each(|call| ask_act(table, &bytes, &call));
+            let day: Vec<Call> =
+                each(Act::Free).chain(each(Act::Reload)).chain(each(Act::Free)).collect();
+            ask_list(table, &bytes, &day);
+        }
+    }
+}
+
 fn ask_price(table: &mut Table, bytes: &[u8], records: &[u8]) {
     let answer = price(bytes, records).map(|counters| counters.to_vec());
     table.add_answer(format!("price {} {}", list(bytes), list(records)), answer);
@@ -525,7 +563,7 @@ const KINDS: [(&str, &[Ask]); 7] = [
     ("ties", &[ask_ties]),
     ("links", &[ask_links]),
     ("seeds", &[ask_draws, ask_networks, ask_sizes]),
-    ("calls", &[ask_calls]),
+    ("calls", &[ask_calls, ask_frees]),
     ("prices", &[ask_prices]),
 ];
 

@@ -1,13 +1,13 @@
-//! Lists of calls, and reloads at the edge of the near limit.
+//! Lists of calls, reloads at the edge of the near limit, and acts on what could come back.
 
-use peer::calls::{any_calls, Act, Call};
+use peer::calls::{any_calls, waiting, Act, Call};
 use peer::networks::{network, tied, Size, SHAPES};
 use peer::pack;
 use peer::picture::{Picture, State};
 use peer::random::Random;
 
 use super::harness::Comparison;
-use super::{any_network, choose_and_check};
+use super::{all_acts, any_network, choose_and_check, mostly_small};
 
 /// Every block reloaded with the near limit just under, at and just over what is then held.
 pub fn near_limits(comparison: &mut Comparison, random: &mut Random, count: usize) {
@@ -34,20 +34,39 @@ fn held_near_after_reload(picture: &Picture, block: usize) -> usize {
     reloaded.held_near()
 }
 
-/// Some tens of calls on one picture, mostly a small one.
+/// Every act on every block of networks with protected endpoints that only a reload can serve.
+pub fn waiting_endpoints(comparison: &mut Comparison, random: &mut Random, count: usize) {
+    for round in 0..2 * count {
+        let size = match round % 2 {
+            0 => mostly_small(random, round, 64),
+            _ => Size::middle(random),
+        };
+        let picture = waiting(random, size);
+        all_acts(comparison, &pack(&picture), 0..picture.block_count() as u32);
+    }
+}
+
+/// Some tens of calls on one picture, mostly a small one or one of middle size.
 pub fn short_lists(comparison: &mut Comparison, random: &mut Random, count: usize) {
     for round in 0..count.div_ceil(2) {
-        let mut picture = any_network(random, round, 32);
-        unprotect_some(random, &mut picture);
+        let picture = any_or_waiting(random, round);
         one_list(comparison, random, &picture, 30);
     }
 }
 
-fn unprotect_some(random: &mut Random, picture: &mut Picture) {
+/// Networks of any shape, in half of which nothing is protected, and, in every second round, such with
+/// endpoints that wait for a reload.
+fn any_or_waiting(random: &mut Random, round: usize) -> Picture {
+    if round % 2 == 1 {
+        let size = Size::middle(random);
+        return waiting(random, size);
+    }
+    let mut picture = any_network(random, round, 32);
     if random.once_in(2) {
         picture.endpoints.iter_mut().for_each(|endpoint| endpoint.protected = false);
         picture.near_limit = picture.edition.max_near_limit();
     }
+    picture
 }
 
 /// Some hundreds of calls on one picture, mostly one of middle size.

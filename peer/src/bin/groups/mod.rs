@@ -26,7 +26,7 @@ const ROOM: usize = MAX_EVIDENCE_BYTES + 11;
 
 type Group = fn(&mut Comparison, &mut Random, usize);
 
-pub const ALL: [(&str, Group); 47] = [
+pub const ALL: [(&str, Group); 48] = [
     ("truncations of the samples", pictures::truncations),
     ("bit flips of the samples", pictures::bit_flips),
     ("wrong ends of links", pictures::wrong_ends),
@@ -56,6 +56,7 @@ pub const ALL: [(&str, Group); 47] = [
     ("evidence, ends of blocks", forests::block_ends),
     ("evidence, deep chains", forests::deep_chains),
     ("near limits", acts::near_limits),
+    ("endpoints that wait for a reload", acts::waiting_endpoints),
     ("lists of calls: short", acts::short_lists),
     ("lists of calls: long", acts::long_lists),
     ("lists: networks", lists::networks),
@@ -76,16 +77,21 @@ pub const ALL: [(&str, Group); 47] = [
     ("price: damaged pictures", price::damaged),
 ];
 
-/// A network of any shape, mostly a small one: once in `of` rounds one of any size and, half way
-/// between these, one with more slots than the first edition has.
+/// A network of any shape, mostly a small one.
 fn any_network(random: &mut Random, round: usize, of: usize) -> Picture {
     let shape = *random.pick(&SHAPES);
-    let size = match round % of {
+    let size = mostly_small(random, round, of);
+    network(random, shape, size)
+}
+
+/// Once in `of` rounds any size and, half way between these, one with more slots than the first edition
+/// has; else a small one.
+fn mostly_small(random: &mut Random, round: usize, of: usize) -> Size {
+    match round % of {
         0 => Size::any(random),
         place if place == of / 2 => Size::beyond_first(random),
         _ => Size::small(random),
-    };
-    network(random, shape, size)
+    }
 }
 
 /// A buffer with old bytes of chance, so that a bit which is not written shows.
