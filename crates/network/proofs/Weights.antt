@@ -26,10 +26,6 @@ use Rattle.network.proofs.Service.{marked_served, served_marked, cut_loses, lose
 
 -- ---- the sums and the mark
 
--- what is asked of each endpoint
-hurts : Picture → List Bool → List Bool → ℕ → Bool
-hurts p now later c = (endpoint_of p c).protected && cut p now later c
-
 module _ {p : Picture} (n : Named p) where
   pub served_weight_lem : (held : ℕ → Bool) → ServedWeight p held (sum_where p (weight_of p) (served p (marks p held)))
   unfolding sum_where
@@ -49,19 +45,19 @@ module _ {p : Picture} (n : Named p) where
 
   -- a protected endpoint, between any two moments
   pub cut_protected_loses : (earlier later : ℕ → Bool) → T (cut_protected p (marks p earlier) (marks p later)) → LosesProtected p earlier later
-  unfolding cut_protected hurts
+  unfolding cut_protected
   cut_protected_loses earlier later t =
-      let r = any_range (hurts p (marks p earlier) (marks p later)) 1 (endpoint_count p) t in
+      let r = any_range _ 1 (endpoint_count p) t in
       let c = r.number in
       let s = and_T (endpoint_of p c).protected (cut p (marks p earlier) (marks p later) c) r.passes in
       record { endpoint = c; some = r.from; most = omega arith; protected = s.0; cut = cut_loses n c s.1 }
 
   pub loses_cut_protected : {earlier later : ℕ → Bool} → LosesProtected p earlier later → T (cut_protected p (marks p earlier) (marks p later))
-  unfolding cut_protected hurts
+  unfolding cut_protected
   loses_cut_protected {earlier} {later} k =
       let c = k.endpoint in
       let t = T_and (endpoint_of p c).protected (cut p (marks p earlier) (marks p later) c) k.protected (loses_cut n k.cut) in
-      range_any (hurts p (marks p earlier) (marks p later)) 1 (endpoint_count p) (record { number = c; from = k.some; below = omega (arith, k.most); passes = t })
+      range_any _ 1 (endpoint_count p) (record { number = c; from = k.some; below = omega (arith, k.most); passes = t })
 
   pub mark_protected : (b : ℕ) → (weighed p b).mark ≡ 1 → CutsProtected p b
   unfolding weighed
