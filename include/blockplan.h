@@ -9,7 +9,8 @@
  * WORDS. Location 0 is the origin (01: the office); locations 1 to n are slots, in blocks of so many slots each, counted from 0. Links lead from
  * location to location, service links (01: serving links) from a location to an endpoint (01: a cab). A slot is held, recoverable or freed; near
  * slots lie in the small fast store. A chain leads from the origin over links through held slots; an endpoint is served if a chain ends at a location
- * with a service link to it. A block cuts the endpoints that are served, and would not be without its slots.
+ * with a service link to it. A block cuts the endpoints that are served, and would not be without its slots. An endpoint has a chain of held or
+ * recoverable slots if one that goes over slots which are not freed ends at such a location.
  *
  * ANSWERS. 0 or a length is success. A refusal is minus one of the numbers below, that of the first fault in the page's order; then no byte of
  * any buffer has changed.
@@ -112,8 +113,8 @@ enum blockplan_refusal {
     BLOCKPLAN_REFUSED_NO_BLOCK = 8,          /* the acts: no block of this number */
     BLOCKPLAN_REFUSED_BUFFER = 9,            /* choose, write, generate: the buffer is under the length of the evidence, or of the
                                                 picture; price: there are fewer counters than BLOCKPLAN_BLOCKS_MAX */
-    BLOCKPLAN_REFUSED_PROTECTED = 10,        /* evict, free: a protected endpoint would be cut; free: or would lose its last chain of
-                                                held or recoverable slots */
+    BLOCKPLAN_REFUSED_PROTECTED = 10,        /* evict, free: a protected endpoint would be cut; free: also where one would lose its last
+                                                chain of held or recoverable slots */
     BLOCKPLAN_REFUSED_NO_CHANGE = 11,        /* the acts: no slot would change */
     BLOCKPLAN_REFUSED_NEAR = 12,             /* reload: it adds a held near slot, and more than the near limit would be held */
     BLOCKPLAN_REFUSED_FORM = 13,             /* check: length, edition or candidate count wrong, a section of another block, a verdict or
@@ -149,7 +150,8 @@ int32_t blockplan_check(const uint8_t *picture, size_t picture_length, const uin
  * picture's numbers, then 8, 11, and then evict and free with 10, reload with 12.
  *
  * evict: held slots become recoverable. reload: recoverable slots become held. free: held and recoverable slots become freed, for good. So
- * free gets 10 also where a protected endpoint that is not served, but could be once slots are reloaded, could be no more.
+ * free gets 10 also where a protected endpoint, served or not, would lose its last chain of held or recoverable slots, whatever the near
+ * limit.
  *
  * Through any list of these calls on a picture that they accept, refused ones among them, a protected endpoint that is served stays served,
  * and one with a chain of held or recoverable slots keeps one.

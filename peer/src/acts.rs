@@ -37,7 +37,7 @@ pub fn reload(lent: &mut [u8], block: u32) -> Result<(), u8> {
 }
 
 /// Turns the block's held and recoverable slots into freed ones. No reload brings these back, so that
-/// what reloads could serve is judged besides what is served.
+/// chains of held or recoverable slots are judged besides those of held ones.
 pub fn free(lent: &mut [u8], block: u32) -> Result<(), u8> {
     let picture = read(lent)?;
     let locations = picture.named_block(block)?;

@@ -308,7 +308,7 @@ const KEPT: [(Change, Change); 12] = [
     (|p| turn(p, &[1, 2], State::Freed), |p| turn(p, &[3, 4], State::Freed)),
     // Endpoint 2 could be served before and not after, and is not protected.
     (|p| turn(p, &[3, 4], State::Recoverable), |p| turn(p, &[3, 4], State::Freed)),
-    // It is, but no link leads to slot 4: document 01's F.
+    // Endpoint 2 is protected, but no link leads to slot 4: document 01's F.
     (
         |p| {
             p.links.truncate(3);

@@ -1,5 +1,5 @@
-//! Who is reached, who is served, and what the loss of a block cuts: by chains of held slots or, where
-//! request C-19 has it, of held or recoverable ones.
+//! Who is reached, who is served, and whom a block cuts: by chains of held slots or, where request C-19
+//! has it, of held or recoverable ones.
 
 use std::collections::VecDeque;
 use std::ops::Range;
@@ -11,7 +11,7 @@ pub const NOTHING: Range<usize> = 0..0;
 
 /// What the chains of document 01 go over.
 pub const HELD: &[State] = &[State::Held];
-/// What the chains of request C-19 go over: those that are there, and those that reloads could make.
+/// What the chains of request C-19 go over, whatever the near limit lets a reload hold.
 pub const HELD_OR_RECOVERABLE: &[State] = &[State::Held, State::Recoverable];
 
 /// Parent and depth of each location, by location number. Entry 0, the origin, stays 0 and 0; a

@@ -19,11 +19,11 @@ use Rattle.acts.specs.Acts.{after, slot_after, act_on, done_bytes}
 use Rattle.acts.proofs.Slots.{slots_acted, slot_acted}
 use Rattle.acts.proofs.Acted.{acted_picture}
 
--- an act that leaves no slot of its block held
-pub record Empties (a : Act) : Type 0 where
-  pub empties : (s : ℕ) → eqb (after a s) 0 ≡ false
+-- an act that leaves no slot of its block in one of these states
+pub record Empties (f : ℕ → Bool) (a : Act) : Type 0 where
+  pub empties : (s : ℕ) → f (after a s) ≡ false
 
-pub evict_empties : Empties Evict
+pub evict_empties : Empties (λ s. eqb s 0) Evict
 unfolding after
 evict_empties = record { empties = λ s. go s (eqb s 0) refl }
   where
@@ -31,25 +31,30 @@ evict_empties = record { empties = λ s. go s (eqb s 0) refl }
     go s true e = refl
     go s false e = e
 
-pub free_empties : Empties Free
+pub free_empties : {f : ℕ → Bool} → f 2 ≡ false → Empties f Free
 unfolding after
-free_empties = record { empties = λ s. refl }
+free_empties e = record { empties = λ s. e }
 
 -- the origin is in no block
 pub origin_apart : (p : Picture) (b : ℕ) → in_block p b 0 ≡ false
 unfolding in_block
 origin_apart p b = rw (lt-leb (b * p.block_size + 1) 0 (omega arith))
 
-module _ {a : Act} (n : Empties a) (p : Picture) (b : ℕ) where
-  held_state : (x : Bool) (s : ℕ) → eqb (cond x (after a s) s) 0 ≡ (eqb s 0 && not x)
-  held_state true s = n.empties s ∙ sym (and-false (eqb s 0))
-  held_state false s = sym (and-true (eqb s 0))
+-- a slot's state is one of these after such an act where it was and the slot is not in the block
+pub emptied_state : {f : ℕ → Bool} {a : Act} → Empties f a → (p : Picture) (b v : ℕ) → f (slot_of (act_on a p b) v).state ≡ (f (slot_of p v).state && not (in_block p b v))
+unfolding slot_after
+emptied_state {f} {a} n p b v = ap (λ (s : Slot). f s.state) (slot_acted a p b v) ∙ go (in_block p b v) (slot_of p v).state
+  where
+    go : (x : Bool) (s : ℕ) → f (cond x (after a s) s) ≡ (f s && not x)
+    go true s = n.empties s ∙ sym (and-false (f s))
+    go false s = sym (and-true (f s))
 
-  -- such an act leaves held what is held without the block
+module _ {a : Act} (n : Empties (λ s. eqb s 0) a) (p : Picture) (b : ℕ) where
+  -- an act that leaves no slot of its block held leaves held what is held without the block
   pub emptied_held : (v : ℕ) → is_held (act_on a p b) v ≡ held_without p b v
-  unfolding is_held without_block slot_after
+  unfolding is_held without_block
   emptied_held zero = sym (ap not (origin_apart p b))
-  emptied_held (suc i) = ap (λ (s : Slot). eqb s.state 0) (slot_acted a p b (suc i)) ∙ held_state (in_block p b (suc i)) (slot_of p (suc i)).state
+  emptied_held (suc i) = emptied_state n p b (suc i)
 
   emptied_marks : marks (act_on a p b) (is_held (act_on a p b)) ≡ marks p (held_without p b)
   unfolding marks act_on
@@ -72,11 +77,11 @@ module _ (p : Picture) (b : ℕ) where
 
   -- a free leaves held what an evict would
   pub freed_held : (v : ℕ) → is_held (act_on Free p b) v ≡ held_without p b v
-  freed_held = emptied_held free_empties p b
+  freed_held = emptied_held (free_empties refl) p b
 
 -- ---- the same of the bytes
 
-emptied_bytes : {a : Act} → Empties a → (bs : List ℕ) (b : ℕ) → picture_fault bs ≡ 0 → b < block_count (picture_of bs)
+emptied_bytes : {a : Act} → Empties (λ s. eqb s 0) a → (bs : List ℕ) (b : ℕ) → picture_fault bs ≡ 0 → b < block_count (picture_of bs)
     → served_weight (picture_of (done_bytes a bs b)) + (weighed (picture_of bs) b).loss ≡ served_weight (picture_of bs)
 emptied_bytes {a} n bs b ok there = rw (acted_picture a bs b ok there) (emptied_weight n (picture_of bs) b (accepted_named bs ok))
 
@@ -85,4 +90,4 @@ module _ (bs : List ℕ) (b : ℕ) (ok : picture_fault bs ≡ 0) (there : b < bl
   evicted_served = emptied_bytes evict_empties bs b ok there
 
   pub freed_served : served_weight (picture_of (done_bytes Free bs b)) + (weighed (picture_of bs) b).loss ≡ served_weight (picture_of bs)
-  freed_served = emptied_bytes free_empties bs b ok there
+  freed_served = emptied_bytes (free_empties refl) bs b ok there

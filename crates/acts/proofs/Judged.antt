@@ -27,7 +27,7 @@ use Rattle.acts.specs.declared.Act.TheVariants.{Evict, Reload, Free}
 use Rattle.acts.specs.Faults.{changes, cuts_over, cut_fault, near_fault, act_fault}
 use Rattle.acts.specs.Answers.{act_bytes}
 use Rattle.acts.specs.Acts.{after, held_or_recoverable, block_slots, recoverable_near, near_after, done_bytes}
-use Rattle.acts.specs.Rules.{Changes, SparesOver, Spares, Crowds, Leaves, act_rules}
+use Rattle.acts.specs.Rules.{Changes, CutsOver, Spares, Crowds, Leaves, act_rules}
 use Rattle.acts.proofs.Slots.{in_block_lem, block_in_lem}
 
 module _ (p : Picture) (b : ℕ) where
@@ -76,13 +76,13 @@ module _ (p : Picture) (b : ℕ) where
 
   module _ (n : Named p) where
     -- over any locations
-    over_spares : (held : ℕ → Bool) → T (not (cuts_over p held b)) → SparesOver p held b
+    over_spares : (held : ℕ → Bool) → T (not (cuts_over p held b)) → ¬ CutsOver p held b
     unfolding cuts_over
     over_spares held t k = T_not (cuts_over p held b) t (loses_cut_protected n k)
 
-    over_breaks : (held : ℕ → Bool) → T (cuts_over p held b) → ¬ SparesOver p held b
+    over_cuts : (held : ℕ → Bool) → T (cuts_over p held b) → CutsOver p held b
     unfolding cuts_over
-    over_breaks held t s = s (cut_protected_loses n held (without_block p held b) t)
+    over_cuts held t = cut_protected_loses n held (without_block p held b) t
 
     cut_spares : (a : Act) → cut_fault a p b ≡ 0 → Spares a p b
     unfolding cut_fault
@@ -94,11 +94,11 @@ module _ (p : Picture) (b : ℕ) where
 
     cut_breaks : (a : Act) → cut_fault a p b ≢ 0 → ¬ Spares a p b × (cut_fault a p b ≡ 10)
     unfolding cut_fault
-    cut_breaks Evict z = (over_breaks (is_held p) (on_true _ 10 z), on_told _ 10 z)
+    cut_breaks Evict z = (λ s. s (over_cuts (is_held p) (on_true _ 10 z)), on_told _ 10 z)
     cut_breaks Reload z = absurd (z refl)
     cut_breaks Free z =
         let t = or_T (cuts_over p (is_held p) b) (cuts_over p (held_or_recoverable p) b) (on_true _ 10 z) in
-        (λ s. ⊎_elim (λ x. over_breaks (is_held p) x s.0) (λ x. over_breaks (held_or_recoverable p) x s.1) t, on_told _ 10 z)
+        (λ s. ⊎_elim (λ x. s.0 (over_cuts (is_held p) x)) (λ x. s.1 (over_cuts (held_or_recoverable p) x)) t, on_told _ 10 z)
 
   near_leaves : (a : Act) → near_fault a p b ≡ 0 → Leaves a p b
   unfolding near_fault

@@ -4,7 +4,7 @@ pub mod Slots
 pub mod Acted
 pub mod Evicted
 pub mod Reloaded
-pub mod Unfreed
+pub mod Recoverable
 pub mod Judged
 pub mod Spared
 pub mod Cutting

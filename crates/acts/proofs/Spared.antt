@@ -1,4 +1,5 @@
--- An act that spares the protected endpoints leaves those served that were served, and a way to come back for those that had one. Assumes nothing.
+-- An act that spares the protected endpoints leaves those served that were served, over what is held and over what is held or recoverable. Assumes
+-- nothing.
 use mathlib.Core.Path.{◌≡◌, sym, subst}
 use mathlib.Core.Bool.{Bool}
 use mathlib.Core.Logic.{by_cases}
@@ -13,10 +14,10 @@ use Rattle.network.proofs.Evicting.{served_more}
 use Rattle.acts.specs.declared.Act.{Act}
 use Rattle.acts.specs.declared.Act.TheVariants.{Evict, Reload, Free}
 use Rattle.acts.specs.Acts.{held_or_recoverable, act_on}
-use Rattle.acts.specs.Rules.{SparesOver, Spares}
+use Rattle.acts.specs.Rules.{CutsOver, Spares}
 use Rattle.acts.proofs.Evicted.{evicted_held, freed_held}
 use Rattle.acts.proofs.Reloaded.{reloaded_held}
-use Rattle.acts.proofs.Unfreed.{evict_returns, reload_returns, returned, freed_away}
+use Rattle.acts.proofs.Recoverable.{evict_frees_nothing, reload_frees_nothing, recoverable_same, freed_away}
 
 module _ (p : Picture) (b c : ℕ) where
   -- an act changes states alone: locations that serve an endpoint where they are held do so after it
@@ -26,7 +27,7 @@ module _ (p : Picture) (b c : ℕ) where
 
   module _ (n : Named p) (guarded : T (endpoint_of p c).protected) where
     -- a protected endpoint that these locations serve and that keeps a chain without the block is served without the block
-    spared_without : {held : ℕ → Bool} → SparesOver p held b → Served p held c → Served p (without_block p held b) c
+    spared_without : {held : ℕ → Bool} → ¬ CutsOver p held b → Served p held c → Served p (without_block p held b) c
     spared_without {held} s before =
         by_cases (T? (served p (marks p (without_block p held b)) c)) (marked_served p (without_block p held b) c)
         (λ m.
@@ -34,7 +35,7 @@ module _ (p : Picture) (b c : ℕ) where
         absurd (s (record { endpoint = c; some = own.1; most = own.2; protected = guarded; cut = record { before = before; after = λ t. m (served_marked n t) } })))
 
     -- and so after an act that leaves those locations
-    spared_after : (a : Act) {held more : ℕ → Bool} → ((v : ℕ) → more v ≡ without_block p held b v) → SparesOver p held b → Served p held c → Served (act_on a p b) more c
+    spared_after : (a : Act) {held more : ℕ → Bool} → ((v : ℕ) → more v ≡ without_block p held b v) → ¬ CutsOver p held b → Served p held c → Served (act_on a p b) more c
     spared_after a e s before = acted_serves a (λ v t. subst T (sym (e v)) t) (spared_without s before)
 
     -- one law for any act
@@ -43,8 +44,8 @@ module _ (p : Picture) (b c : ℕ) where
     spared_serves Reload s = acted_serves Reload (λ v t. subst T (sym (reloaded_held p b v)) (T-or-l (is_held p v) _ t))
     spared_serves Free s = spared_after Free (freed_held p b) s.0
 
-    -- and one for what is held or recoverable
-    pub spared_returns : (a : Act) → Spares a p b → Served p (held_or_recoverable p) c → Served (act_on a p b) (held_or_recoverable (act_on a p b)) c
-    spared_returns Evict s = acted_serves Evict (λ v t. subst T (sym (returned p b evict_returns v)) t)
-    spared_returns Reload s = acted_serves Reload (λ v t. subst T (sym (returned p b reload_returns v)) t)
-    spared_returns Free s = spared_after Free (freed_away p b) s.1
+    -- and over what is held or recoverable
+    pub spared_recoverable : (a : Act) → Spares a p b → Served p (held_or_recoverable p) c → Served (act_on a p b) (held_or_recoverable (act_on a p b)) c
+    spared_recoverable Evict s = acted_serves Evict (λ v t. subst T (sym (recoverable_same p b evict_frees_nothing v)) t)
+    spared_recoverable Reload s = acted_serves Reload (λ v t. subst T (sym (recoverable_same p b reload_frees_nothing v)) t)
+    spared_recoverable Free s = spared_after Free (freed_away p b) s.1

@@ -17,7 +17,7 @@ after Evict s = cond (eqb s 0) 1 s
 after Reload s = cond (eqb s 1) 0 s
 after Free s = 2
 
--- held or recoverable, as 02, C-19, has it: a location that holds the bundle, or can get it back. What is freed cannot
+-- "held or recoverable slots" (02, C-19), and the origin
 unfoldable pub held_or_recoverable : Picture → ℕ → Bool
 held_or_recoverable p v = is_held p v || eqb (slot_of p v).state 1
 

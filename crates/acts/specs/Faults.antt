@@ -14,7 +14,7 @@ use Rattle.acts.specs.Acts.{after, held_or_recoverable, block_slots, recoverable
 unfoldable pub changes : Act → Picture → ℕ → Bool
 changes a p b = any (λ v. not (eqb (after a (slot_of p v).state) (slot_of p v).state)) (block_slots p b)
 
--- without the slots of block b a protected endpoint loses all its chains through the locations of `held`
+-- a protected endpoint has a chain through the locations of `held`, and has none without block b
 unfoldable pub cuts_over : Picture → (ℕ → Bool) → ℕ → Bool
 cuts_over p held b = cut_protected p (marks p held) (marks p (without_block p held b))
 

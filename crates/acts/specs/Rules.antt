@@ -1,9 +1,9 @@
--- The rules that an act is judged by, in their order. Document 01, "Checking and evicting". Assumes nothing.
+-- The rules that an act is judged by, in their order. Document 01, "Checking and evicting", and 02, C-19. Assumes nothing.
 use Rattle.std.specs.Prelude.{Bool, List, [], ◌∷◌, ◌++◌, ◌≡◌, ◌≢◌, ℕ, ◌<◌, T}
 use Rattle.lists.specs.Rules.{Rule}
 use Rattle.picture.specs.Picture.{Picture, picture_of, slot_of}
 use Rattle.picture.specs.Rules.{rules}
-use Rattle.network.specs.Words.{block_count, in_block, is_held, without_block, LosesProtected}
+use Rattle.network.specs.Words.{block_count, in_block, without_block, LosesProtected, Admissible}
 use Rattle.acts.specs.declared.Act.{Act}
 use Rattle.acts.specs.declared.Act.TheVariants.{Evict, Reload, Free}
 use Rattle.acts.specs.Acts.{after, held_or_recoverable, near_after}
@@ -14,16 +14,16 @@ pub record Changes (a : Act) (p : Picture) (b : ℕ) : Type 0 where
   pub inside : T (in_block p b slot)
   pub other : after a (slot_of p slot).state ≢ (slot_of p slot).state
 
--- without the slots of block b no protected endpoint loses all its chains through the locations of `held`. With the held ones, b is admissible
-abbrev pub SparesOver : Picture → (ℕ → Bool) → ℕ → Type 0
-SparesOver p held b = ¬ LosesProtected p held (without_block p held b)
+-- a protected endpoint has a chain through the locations of `held`, and has none without block b. Over what is held, b cuts a protected endpoint
+abbrev pub CutsOver : Picture → (ℕ → Bool) → ℕ → Type 0
+CutsOver p held b = LosesProtected p held (without_block p held b)
 
--- not so: "evict or free cuts a protected cab". "So free is also judged over chains of held or recoverable slots" (02, C-19): what could have
--- come back is gone for good. Reload cuts nothing
+-- not so: "evict or free cuts a protected cab" (01). "So free is also judged over chains of held or recoverable slots: it gets 10 where a
+-- protected cab that has such a chain would have none after" (02, C-19). Reload cuts nothing
 abbrev pub Spares : Act → Picture → ℕ → Type 0
-Spares Evict p b = SparesOver p (is_held p) b
+Spares Evict p b = Admissible p b
 Spares Reload p b = Unit {0}
-Spares Free p b = SparesOver p (is_held p) b × SparesOver p (held_or_recoverable p) b
+Spares Free p b = Admissible p b × ¬ CutsOver p (held_or_recoverable p) b
 
 -- "reload adds a held near slot and more than κ are then held"
 pub record Crowds (p : Picture) (b : ℕ) : Type 0 where

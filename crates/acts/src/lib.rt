@@ -112,7 +112,7 @@ fn near_after(p: &Picture, b: usize) -> usize
 }
 
 // The slots that are held or recoverable.
-fn unfreed_slots(p: &Picture) -> Row
+fn held_or_recoverable(p: &Picture) -> Row
     ensures { SlotRowOf (picture_of p.now) (held_or_recoverable (picture_of p.now)) result }
 {
     let mut slots = [0u64; WORDS];
@@ -125,7 +125,7 @@ fn unfreed_slots(p: &Picture) -> Row
     slots
 }
 
-// Whether, without the slots of block b, a protected endpoint loses all its chains through these slots.
+// Whether a protected endpoint has a chain through these slots, and has none without those of block b.
 fn cuts_over(p: &Picture, tables: &Tables, slots: Row, b: usize) -> bool
     requires block { b < block_count (picture_of p.now) }
     requires tables { TablesOf (picture_of p.now) tables.now }
@@ -150,7 +150,7 @@ fn cuts_over(p: &Picture, tables: &Tables, slots: Row, b: usize) -> bool
     lost.mark == 1
 }
 
-// Giving up block b cuts no protected endpoint; given up for good, by a free, it takes from none the last way that could have come back.
+// Giving up block b cuts no protected endpoint; for good, by a free, it also takes from none its last chain of held or recoverable slots.
 #[tactic(auto, unfolding(crate::specs::Faults::cut_fault, lists::specs::Lists::on))]
 fn judge_block_cut(p: &Picture, b: usize, for_good: bool) -> Result<(), Refusal>
     requires { b < block_count (picture_of p.now) }
@@ -159,14 +159,16 @@ fn judge_block_cut(p: &Picture, b: usize, for_good: bool) -> Result<(), Refusal>
     let mut tables = Tables::empty();
     tables.fill(p);
     let held = network::slot_rows(p).held;
-    if cuts_over(p, &tables, held, b) || for_good && cuts_over(p, &tables, unfreed_slots(p), b) {
+    if cuts_over(p, &tables, held, b)
+        || for_good && cuts_over(p, &tables, held_or_recoverable(p), b)
+    {
         return Err(Refusal::Protected);
     }
     Ok(())
 }
 
 // The same of an act: a reload cuts nothing.
-// Kept: with one arm for the other two weighing is compiled into the act, and a reload then takes 33,272 bytes of stack in place of 4,520.
+// Kept: called in one place, it is compiled into the act, and a reload then takes 33,272 bytes of stack in place of 4,520.
 #[tactic(auto, unfolding(crate::specs::Faults::cut_fault))]
 fn judge_cut(p: &Picture, a: Act, b: usize) -> Result<(), Refusal>
     requires { b < block_count (picture_of p.now) }

@@ -1,4 +1,4 @@
--- A list of calls keeps what C-15 says. Each sentence is shown for one call, and goes from call to call. Assumes nothing.
+-- A list of calls keeps what C-15 and C-19 say. Each sentence is shown for one call, and goes from call to call. Assumes nothing.
 use mathlib.Core.Path.{◌≡◌, refl, sym, subst, ◌∙◌}
 use mathlib.Core.Logic.{by_cases}
 use mathlib.Core.List.{List, [], ◌∷◌, ◌++◌}
@@ -13,7 +13,7 @@ use Rattle.acts.specs.Faults.{act_fault}
 use Rattle.acts.proofs.Slots.{near_acted, freed_acted}
 use Rattle.acts.proofs.Acted.{acted_header, acted_picture, acted_accepted}
 use Rattle.acts.proofs.Judged.{Doable, done_doable, done_bytes_lem, refused_bytes}
-use Rattle.acts.proofs.Spared.{spared_serves, spared_returns}
+use Rattle.acts.proofs.Spared.{spared_serves, spared_recoverable}
 use Rattle.demands.specs.Calls.{Call, call_bytes, bytes_after, Keeps, CallsKeep}
 
 -- ---- what is kept goes from call to call
@@ -28,7 +28,7 @@ keeps_own bs ok =
       links = refl;
       service_links = refl;
       served = λ c t s. s;
-      returning = λ c t s. s;
+      recoverable = λ c t s. s;
       freed = λ v e. e;
     }
 
@@ -43,7 +43,7 @@ keeps_then k l =
       links = l.links ∙ k.links;
       service_links = l.service_links ∙ k.service_links;
       served = λ c t s. l.served c (rw k.endpoints t) (k.served c t s);
-      returning = λ c t s. l.returning c (rw k.endpoints t) (k.returning c t s);
+      recoverable = λ c t s. l.recoverable c (rw k.endpoints t) (k.recoverable c t s);
       freed = λ v e. l.freed v (k.freed v e);
     }
 
@@ -65,7 +65,7 @@ done_keeps a bs b d =
       links = rw same (unfold act_on in refl);
       service_links = rw same (unfold act_on in refl);
       served = λ c t s. rw same (spared_serves p b c named t a d.spares s);
-      returning = λ c t s. rw same (spared_returns p b c named t a d.spares s);
+      recoverable = λ c t s. rw same (spared_recoverable p b c named t a d.spares s);
       freed = λ v e. rw same (freed_acted a p b v e);
     }
 

@@ -40,7 +40,7 @@ pub record Keeps (earlier later : List ℕ) : Type 0 where
   pub served : (c : ℕ) → T (endpoint_of (picture_of earlier) c).protected → Served (picture_of earlier) (is_held (picture_of earlier)) c
       → Served (picture_of later) (is_held (picture_of later)) c
   -- "a protected cab with such a chain at the start has one at the end"
-  pub returning : (c : ℕ) → T (endpoint_of (picture_of earlier) c).protected → Served (picture_of earlier) (held_or_recoverable (picture_of earlier)) c
+  pub recoverable : (c : ℕ) → T (endpoint_of (picture_of earlier) c).protected → Served (picture_of earlier) (held_or_recoverable (picture_of earlier)) c
       → Served (picture_of later) (held_or_recoverable (picture_of later)) c
   -- "A slot freed once is freed after every longer list too"
   pub freed : (v : ℕ) → (slot_of (picture_of earlier) v).state ≡ 2 → (slot_of (picture_of later) v).state ≡ 2

@@ -87,7 +87,7 @@ slots_only_second first n bytes = first ∷ n / 16 ∷ n % 16 * 16 ∷ 0 ∷ 0 �
 unfoldable pub one_link : List ℕ → List ℕ
 one_link link = set (slots_only_second 0x28 320 120) 6 0x10 ++ link
 
--- A picture of A's size with these bytes of slots
+-- a picture of A's size with these bytes of slots
 unfoldable pub with_slots : ℕ → ℕ → List ℕ → List ℕ
 with_slots first second bs = set (set bs 7 first) 8 second
 
@@ -110,13 +110,13 @@ calls_a =
     ∷ record { act = Reload; block = 1 }
     ∷ []
 
--- K with service link 4-1 for 4-2: endpoint 1 is served through block 0, and has a recoverable way besides
-unfoldable pub way_besides : List ℕ
-way_besides = set case_k 26 0x04
+-- K with service link 4-1 for 4-2: endpoint 1 is served over block 0, and has a recoverable chain over block 1 besides
+unfoldable pub chain_besides : List ℕ
+chain_besides = set case_k 26 0x04
 
--- K with service link 3-1, twice, for 1-1 and 2-1: the one way to endpoint 1 takes slot 1, which is held, and slot 3, which is recoverable
-unfoldable pub way_through_both : List ℕ
-way_through_both = set (set case_k 21 0x0C) 23 0x0C
+-- K with service link 3-1, twice, for 1-1 and 2-1: endpoint 1 has one chain, over slot 1, which is held, and slot 3, which is recoverable
+unfoldable pub chain_over_both : List ℕ
+chain_over_both = set (set case_k 21 0x0C) 23 0x0C
 
 -- four calls on G with κ 4
 unfoldable pub calls_g : List Call
@@ -324,29 +324,37 @@ table =
     ∷ record { question = act Evict case_k 1; says = 11 ∷ case_k }
     ∷ record { question = act Evict case_a 2; says = 8 ∷ case_a }
     ∷ record { question = act Evict (set case_a 0 0x32) 0; says = 2 ∷ set case_a 0 0x32 }
-    -- what could have come back (02, C-19): G's block 0, which is recoverable, is the one way to endpoint 1, so that freeing it is refused, though it
-    -- serves nothing now. Block 1 goes, whose endpoint is not protected, and so does block 0 where endpoint 1 is not
+    -- free over held or recoverable slots (02, C-19). In G nothing is served, and endpoint 1, which is protected, has chains over block 0 alone, which is
+    -- recoverable: freeing it is refused, where evicting it would change nothing. Block 1 goes, whose endpoint is not protected, and so does block 0
+    -- where endpoint 1 is not. The first again in edition 2, with κ 0, with weight 0 (J), and with slot 2 alone recoverable, beside a freed one
     ∷ record { question = act Free case_g 0; says = 10 ∷ case_g }
     ∷ record { question = act Evict case_g 0; says = 11 ∷ case_g }
     ∷ record { question = act Free case_g 1; says = 0 ∷ with_slots 0x6E 0xD0 case_g }
     ∷ record { question = act Free (set case_g 10 0xE0) 0; says = 0 ∷ with_slots 0xB5 0xB0 (set case_g 10 0xE0) }
     ∷ record { question = act Free (set (set case_second 8 0x6D) 9 0xB0) 0; says = 10 ∷ set (set case_second 8 0x6D) 9 0xB0 }
-    -- a recoverable way besides the one that serves now: the block that serves stays, and the other goes; both where endpoint 1 is not protected,
-    -- and the first where the other way is held. Where it is freed it is none, and the first block stays, held or recoverable
-    ∷ record { question = act Free way_besides 0; says = 10 ∷ way_besides }
-    ∷ record { question = act Evict way_besides 0; says = 10 ∷ way_besides }
-    ∷ record { question = act Free way_besides 1; says = 0 ∷ with_slots 0x26 0xD0 way_besides }
-    ∷ record { question = act Free (set way_besides 10 0xE0) 0; says = 0 ∷ with_slots 0xB5 0xB0 (set way_besides 10 0xE0) }
-    ∷ record { question = act Free (with_slots 0x24 0x90 way_besides) 0; says = 0 ∷ with_slots 0xB4 0x90 way_besides }
-    ∷ record { question = act Free (with_slots 0x26 0xD0 way_besides) 0; says = 10 ∷ with_slots 0x26 0xD0 way_besides }
-    ∷ record { question = act Free (with_slots 0x6E 0xD0 way_besides) 0; says = 10 ∷ with_slots 0x6E 0xD0 way_besides }
+    ∷ record { question = act Free (set case_g 2 0) 0; says = 10 ∷ set case_g 2 0 }
+    ∷ record { question = act Free (with_slots 0x6D 0xB0 case_j) 0; says = 10 ∷ with_slots 0x6D 0xB0 case_j }
+    ∷ record { question = act Free (with_slots 0xAC 0x90 case_a) 0; says = 10 ∷ with_slots 0xAC 0x90 case_a }
+    -- both protected: neither goes, in C; in F, without link 0-4, endpoint 2 has no chain, and block 1 goes
+    ∷ record { question = act Free (with_slots 0x6D 0xB0 case_c) 1; says = 10 ∷ with_slots 0x6D 0xB0 case_c }
+    ∷ record { question = act Free (with_slots 0x6D 0xB0 case_f) 1; says = 0 ∷ with_slots 0x6E 0xD0 case_f }
+    -- a recoverable chain besides the one that serves now: the block that serves stays, and the other goes; both where endpoint 1 is not protected,
+    -- and the first where the other is held. Over a freed slot there is no chain, and the first block stays, held or recoverable
+    ∷ record { question = act Free chain_besides 0; says = 10 ∷ chain_besides }
+    ∷ record { question = act Evict chain_besides 0; says = 10 ∷ chain_besides }
+    ∷ record { question = act Free chain_besides 1; says = 0 ∷ with_slots 0x26 0xD0 chain_besides }
+    ∷ record { question = act Free (set chain_besides 10 0xE0) 0; says = 0 ∷ with_slots 0xB5 0xB0 (set chain_besides 10 0xE0) }
+    ∷ record { question = act Free (with_slots 0x24 0x90 chain_besides) 0; says = 0 ∷ with_slots 0xB4 0x90 chain_besides }
+    ∷ record { question = act Free (with_slots 0x26 0xD0 chain_besides) 0; says = 10 ∷ with_slots 0x26 0xD0 chain_besides }
+    ∷ record { question = act Free (with_slots 0x6E 0xD0 chain_besides) 0; says = 10 ∷ with_slots 0x6E 0xD0 chain_besides }
     -- both recoverable: either goes, but not both
-    ∷ record { question = act Free (with_slots 0x6D 0xB0 way_besides) 0; says = 0 ∷ with_slots 0xB5 0xB0 way_besides }
-    ∷ record { question = act Free (with_slots 0xB5 0xB0 way_besides) 1; says = 10 ∷ with_slots 0xB5 0xB0 way_besides }
-    -- a way of a held and a recoverable slot: it serves nothing now, so that evicting block 0 is done; freeing takes the way from endpoint 1
-    ∷ record { question = act Evict way_through_both 0; says = 0 ∷ with_slots 0x6D 0xB0 way_through_both }
-    ∷ record { question = act Free way_through_both 0; says = 10 ∷ way_through_both }
-    ∷ record { question = act Free way_through_both 1; says = 10 ∷ way_through_both }
+    ∷ record { question = act Free (with_slots 0x6D 0xB0 chain_besides) 0; says = 0 ∷ with_slots 0xB5 0xB0 chain_besides }
+    ∷ record { question = act Free (with_slots 0x6D 0xB0 chain_besides) 1; says = 0 ∷ with_slots 0x6E 0xD0 chain_besides }
+    ∷ record { question = act Free (with_slots 0xB5 0xB0 chain_besides) 1; says = 10 ∷ with_slots 0xB5 0xB0 chain_besides }
+    -- a chain over a held and a recoverable slot: it serves nothing now, so that evicting block 0 is done; freeing either block takes it away
+    ∷ record { question = act Evict chain_over_both 0; says = 0 ∷ with_slots 0x6D 0xB0 chain_over_both }
+    ∷ record { question = act Free chain_over_both 0; says = 10 ∷ chain_over_both }
+    ∷ record { question = act Free chain_over_both 1; says = 10 ∷ chain_over_both }
     -- lists of calls (02, C-15): six on A with κ 4, of which evicting block 0 (10) and reloading what is freed (11) are refused, after each of
     -- them; all six on A, where reloading block 1 is refused (12) and evicting it again then too (11); and on A's network in edition 2
     ∷ record { question = calls room_a (take 1 calls_a); says = 0 ∷ 30 ∷ set case_k 2 4 }

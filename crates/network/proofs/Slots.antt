@@ -21,15 +21,21 @@ use Rattle.network.specs.Rows.{SlotRowOf, SlotRowsOf}
 use Rattle.network.proofs.Candidates.{near_slot}
 use Rattle.network.proofs.Making.{Scanned, Above}
 
--- past the slots there is nothing that is held
+-- past the slots the state is that of a freed one
+pub state_within : (f : ℕ → Bool) → ¬ T (f 2) → (p : Picture) (i : ℕ) → T (f (slot_of p (suc i)).state) → i < length p.slots
+state_within f n p i t = by_cases (dec_lt i (length p.slots)) (λ s. s) (λ g. absurd (n (subst (λ (x : Slot). T (f x.state)) (slot_past p i (omega arith)) t)))
+
+pub none_past : (p : Picture) (f : ℕ → Bool) → ((v : ℕ) → 1 ≤ v → T (f v) → v ≤ length p.slots) → (v : ℕ) → length p.slots < v → f v ≡ false
+none_past p f own v l = is_false (f v) (λ t. absurd (omega (arith, own v (omega arith) t)))
+
+-- so there is nothing there that is held
 pub held_within : (p : Picture) (v : ℕ) → 1 ≤ v → T (is_held p v) → v ≤ length p.slots
 unfolding is_held
 held_within p zero l t = absurd (not-suc-le-zero l)
-held_within p (suc i) l t =
-    by_cases (dec_lt i (length p.slots)) (λ s. s) (λ g. absurd (subst (λ (x : Slot). T (eqb x.state 0)) (slot_past p i (omega arith)) t))
+held_within p (suc i) l t = state_within (λ s. eqb s 0) (λ x. x) p i t
 
 pub held_past : (p : Picture) (v : ℕ) → length p.slots < v → is_held p v ≡ false
-held_past p v l = is_false (is_held p v) (λ t. absurd (omega (arith, held_within p v (omega arith) t)))
+held_past p = none_past p (is_held p) (held_within p)
 
 -- and no other number is that of a near slot
 pub near_outside : (p : Picture) (v : ℕ) → ¬ ((1 ≤ v) × (v ≤ length p.slots)) → is_near_held p v ≡ false

@@ -20,7 +20,7 @@ pub record RowsOf (k : ℕ) (f : ℕ → ℕ → Bool) (table : List (List ℕ))
   pub many : length table ≡ k
   pub same : (a b : ℕ) → linked_in table a b ≡ f a b
 
--- the row of the slots that hold the bundle, in one sense or another
+-- a row that marks just the slots of `held`
 pub record SlotRowOf (p : Picture) (held : ℕ → Bool) (row : List ℕ) : Type 0 where
   pub only : SlotsOnly (slot_count p) row
   pub same : (v : ℕ) → held_in row v ≡ held v

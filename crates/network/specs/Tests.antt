@@ -19,7 +19,7 @@ served p t c = any (λ l. get_or t l.from false && eqb l.to c) p.service_links
 unfoldable pub cut : Picture → List Bool → List Bool → ℕ → Bool
 cut p now without c = served p now c && not (served p without c)
 
--- a protected one is
+-- some protected endpoint is
 unfoldable pub cut_protected : Picture → List Bool → List Bool → Bool
 cut_protected p now without = any (λ c. (endpoint_of p c).protected && cut p now without c) (range 1 (endpoint_count p))
 

@@ -40,13 +40,13 @@ held_without p = without_block p (is_held p)
 unfoldable pub joins : List Link → ℕ → ℕ → Bool
 joins ls a b = any (λ l. eqb l.from a && eqb l.to b) ls
 
--- an endpoint is served if some reached location has a service link (01: serving link) to it. `held` is what holds the bundle
+-- an endpoint is served if some reached location has a service link (01: serving link) to it. `held` says what counts as held: 01's is `is_held`
 pub record Served (p : Picture) (held : ℕ → Bool) (c : ℕ) : Type 0 where
   pub location : ℕ
   pub serves : T (joins p.service_links location c)
   pub reached : Reached (joins p.links) held location
 
--- an endpoint loses its service: it is served where the locations of `earlier` hold the bundle, and not where those of `later` do
+-- an endpoint loses its service: it is served over the locations of `earlier`, and not over those of `later`
 pub record Loses (p : Picture) (earlier later : ℕ → Bool) (c : ℕ) : Type 0 where
   pub before : Served p earlier c
   pub after : ¬ Served p later c
