@@ -3,7 +3,7 @@
 use std::ops::Range;
 
 use crate::picture::{pack, read, Picture, State};
-use crate::reach::{Network, HELD, HELD_OR_RECOVERABLE};
+use crate::reach::Network;
 use crate::refusals;
 
 /// Turns the block's held slots into recoverable ones.
@@ -14,7 +14,7 @@ pub fn evict(lent: &mut [u8], block: u32) -> Result<(), u8> {
         State::Held => State::Recoverable,
         other => other,
     })?;
-    judge_cut(&picture, &locations, HELD)?;
+    judge_cut(&picture, &locations)?;
     lent.copy_from_slice(&pack(&changed));
     Ok(())
 }
@@ -43,8 +43,8 @@ pub fn free(lent: &mut [u8], block: u32) -> Result<(), u8> {
     let locations = picture.named_block(block)?;
     let changed = with_states(&picture, &locations, |_| State::Freed)?;
     // An endpoint that is served over this block alone may have a recoverable slot elsewhere.
-    judge_cut(&picture, &locations, HELD)?;
-    judge_cut(&picture, &locations, HELD_OR_RECOVERABLE)?;
+    judge_cut(&picture, &locations)?;
+    judge_cut(&picture.all_reloaded(), &locations)?;
     lent.copy_from_slice(&pack(&changed));
     Ok(())
 }
@@ -66,10 +66,9 @@ fn with_states(
     Ok(changed)
 }
 
-/// A refusal if a protected endpoint has a chain over slots of these states and none without these
-/// locations.
-fn judge_cut(picture: &Picture, locations: &Range<usize>, carriers: &[State]) -> Result<(), u8> {
-    let (_, cut) = Network::over(picture, carriers).weigh(locations);
+/// A refusal if a protected endpoint is served and would not be without these locations.
+fn judge_cut(picture: &Picture, locations: &Range<usize>) -> Result<(), u8> {
+    let (_, cut) = Network::new(picture).weigh(locations);
     if cut.mark == 1 {
         return Err(refusals::PROTECTED);
     }

@@ -7,7 +7,7 @@ use crate::networks::{network, Size, SHAPES};
 use crate::picture::{Endpoint, State};
 use crate::random::Random;
 use crate::random_tests::{fewest_over, served_by_words, small_networks, tied_networks};
-use crate::reach::{Network, HELD, HELD_OR_RECOVERABLE, NOTHING};
+use crate::reach::{Network, NOTHING};
 use crate::refusals::number_of;
 use crate::{pack, read, Picture};
 
@@ -63,7 +63,7 @@ fn random_lists_keep_the_promise() {
 }
 
 /// For each slot whether it is freed, and for each endpoint whether it is protected and served, and
-/// protected and could be served, by the words of the documents.
+/// whether it is protected and has a chain of held or recoverable slots, by the words of the documents.
 fn lasting(bytes: &[u8]) -> [Vec<bool>; 3] {
     let picture = read(bytes).expect("an accepted picture");
     let has_chain = |is_open: fn(State) -> bool| {
@@ -99,13 +99,13 @@ fn what_lasts_once_lasts() {
             let each: Vec<_> = lasting.iter().map(|kinds| kinds[kind].clone()).collect();
             *since += added(&each);
         }
-        let [_, served, could_be] = &lasting[calls.len()];
-        waiting_still += (0..served.len()).filter(|&at| could_be[at] && !served[at]).count();
+        let [_, served, chained] = &lasting[calls.len()];
+        waiting_still += (0..served.len()).filter(|&at| chained[at] && !served[at]).count();
     }
-    let [freed, served, could_be] = added_since;
-    // Not all that lasts was there at the start, but what could be served was: no call brings back a
-    // freed slot.
-    assert!(freed > 100 && served > 10 && could_be == 0, "{added_since:?}");
+    let [freed, served, chained] = added_since;
+    // Not all that lasts was there at the start, but chains of held or recoverable slots were: no call
+    // brings back a freed slot.
+    assert!(freed > 100 && served > 10 && chained == 0, "{added_since:?}");
     assert!(waiting_still > 10, "{waiting_still}");
 }
 
@@ -126,19 +126,18 @@ fn evict_unjudged(lent: &mut [u8], block: u32) {
     });
 }
 
-/// Frees a block that cuts no protected endpoint off from chains over these states, whatever it does to
-/// other chains.
-pub fn free_judged_over(carriers: &[State], lent: &mut [u8], block: u32) {
-    let picture = read(lent).expect("an accepted picture");
+/// Frees a block that cuts no protected endpoint in the picture as it is taken.
+pub fn free_judged_on(taken: fn(&Picture) -> Picture, lent: &mut [u8], block: u32) {
+    let picture = taken(&read(lent).expect("an accepted picture"));
     let locations = picture.named_block(block).unwrap_or(NOTHING);
-    let (_, cut) = Network::over(&picture, carriers).weigh(&locations);
+    let (_, cut) = Network::new(&picture).weigh(&locations);
     if cut.mark == 0 {
         turn_unjudged(lent, block, |_| State::Freed);
     }
 }
 
 const LOST: &str = "is protected and served before, not after";
-const GONE: &str = "is protected and could be served before, not after";
+const GONE: &str = "is protected and has a chain of held or recoverable slots before, not after";
 const BACK: &str = "is freed before, not after";
 
 type WrongAct = fn(&mut [u8], u32);
@@ -149,8 +148,8 @@ type WrongAct = fn(&mut [u8], u32);
 fn wrong_acts_break_the_promise_on_random_lists() {
     let wrong: [(Act, WrongAct, &[&str]); 5] = [
         (Free, |lent, block| turn_unjudged(lent, block, |_| State::Freed), &[LOST, GONE]),
-        (Free, |lent, block| free_judged_over(HELD, lent, block), &[GONE]),
-        (Free, |lent, block| free_judged_over(HELD_OR_RECOVERABLE, lent, block), &[LOST]),
+        (Free, |lent, block| free_judged_on(Picture::clone, lent, block), &[GONE]),
+        (Free, |lent, block| free_judged_on(Picture::all_reloaded, lent, block), &[LOST]),
         (Evict, evict_unjudged, &[LOST]),
         (Reload, |lent, block| turn_unjudged(lent, block, |_| State::Held), &[BACK]),
     ];

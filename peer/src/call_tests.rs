@@ -192,8 +192,10 @@ fn turn(picture: &mut Picture, slots: &[usize], state: State) {
 
 const LOST_1: &str = "endpoint 1 is protected and served before, not after";
 const LOST_2: &str = "endpoint 2 is protected and served before, not after";
-pub const GONE_1: &str = "endpoint 1 is protected and could be served before, not after";
-const GONE_2: &str = "endpoint 2 is protected and could be served before, not after";
+pub const GONE_1: &str =
+    "endpoint 1 is protected and has a chain of held or recoverable slots before, not after";
+const GONE_2: &str =
+    "endpoint 2 is protected and has a chain of held or recoverable slots before, not after";
 
 /// The sentence that is broken, a change to the earlier moment and what the later one has besides.
 const BROKEN: [(&str, Change, Change); 26] = [
@@ -306,7 +308,7 @@ const KEPT: [(Change, Change); 12] = [
     ),
     // No slot could serve it before.
     (|p| turn(p, &[1, 2], State::Freed), |p| turn(p, &[3, 4], State::Freed)),
-    // Endpoint 2 could be served before and not after, and is not protected.
+    // Endpoint 2 has such a chain before and not after, and is not protected.
     (|p| turn(p, &[3, 4], State::Recoverable), |p| turn(p, &[3, 4], State::Freed)),
     // Endpoint 2 is protected, but no link leads to slot 4: document 01's F.
     (

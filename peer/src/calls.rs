@@ -6,7 +6,7 @@ use std::fmt::Debug;
 use crate::networks::{network, Size, SHAPES};
 use crate::picture::{read, Picture, State};
 use crate::random::Random;
-use crate::reach::{no_longer_served, Network, HELD, HELD_OR_RECOVERABLE};
+use crate::reach::{self, Network};
 use crate::{evict, free, reload};
 
 #[derive(Clone, Copy, Debug, PartialEq, Eq)]
@@ -43,8 +43,8 @@ pub fn make_all(lent: &mut [u8], calls: &[Call]) -> Vec<Result<(), u8>> {
 
 /// The sentence of requests C-15 and C-19 that does not hold from earlier to later bytes of one list of
 /// calls, or nothing. What calls leave alone must be equal, each protected endpoint that is served
-/// earlier must be served later, each that could be, by a chain of held or recoverable slots, must have
-/// such a chain later, and each slot that is freed earlier must be freed later.
+/// earlier must be served later, each that has a chain of held or recoverable slots earlier must have one
+/// later, and each slot that is freed earlier must be freed later.
 pub fn broken_promise(earlier: &[u8], later: &[u8]) -> Option<String> {
     let (earlier, later) = match (read(earlier), read(later)) {
         (Ok(earlier), Ok(later)) => (earlier, later),
@@ -53,8 +53,8 @@ pub fn broken_promise(earlier: &[u8], later: &[u8]) -> Option<String> {
     };
     other_size(&earlier, &later)
         .or_else(|| other_row(&earlier, &later))
-        .or_else(|| cut_off(&earlier, &later, HELD, "served"))
-        .or_else(|| cut_off(&earlier, &later, HELD_OR_RECOVERABLE, "could be served"))
+        .or_else(|| no_longer_served(&earlier, &later, "served"))
+        .or_else(|| no_longer_served(&earlier.all_reloaded(), &later.all_reloaded(), CHAINED))
         .or_else(|| no_longer_freed(&earlier, &later))
 }
 
@@ -98,11 +98,12 @@ fn other_field<R, F: Debug + PartialEq>(
     Some(format!("{name} {row} is {before:?} before, {after:?} after"))
 }
 
-/// A protected endpoint that has a chain over slots of these states earlier and none later.
-fn cut_off(earlier: &Picture, later: &Picture, carriers: &[State], what: &str) -> Option<String> {
-    let has_chain = |picture| Network::over(picture, carriers).served_now();
-    let (before, after) = (has_chain(earlier), has_chain(later));
-    let lost = no_longer_served(&before, &after).find(|&at| earlier.endpoints[at].protected)?;
+/// What a protected endpoint is that is served once all recoverable slots are reloaded.
+const CHAINED: &str = "has a chain of held or recoverable slots";
+
+fn no_longer_served(earlier: &Picture, later: &Picture, what: &str) -> Option<String> {
+    let (before, after) = (Network::new(earlier).served_now(), Network::new(later).served_now());
+    let lost = reach::no_longer_served(&before, &after).find(|&at| earlier.endpoints[at].protected)?;
     Some(format!("endpoint {} is protected and {what} before, not after", lost + 1))
 }
 

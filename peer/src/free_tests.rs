@@ -1,7 +1,7 @@
 //! Free judged by chains of held slots and by those of held or recoverable ones, evict by the former
 //! alone.
 
-use crate::call_random_tests::free_judged_over;
+use crate::call_random_tests::free_judged_on;
 use crate::call_tests::{cases, hold_by_hand, hold_list, Row, BLOCK_1_FREED, GONE_1, RECOVERABLE};
 use crate::calls::{broken_promise, waiting, Act, Call};
 use crate::edition::EDITIONS;
@@ -9,7 +9,6 @@ use crate::networks::Size;
 use crate::picture::{Endpoint, State};
 use crate::random::Random;
 use crate::random_tests::{fewest_over, served_by_words, small_networks, tied_networks};
-use crate::reach::HELD;
 use crate::refusals::{number_of, NO_CHANGE, PROTECTED};
 use crate::tie_tests::drawn;
 use crate::{pack, reload, weigh, Picture};
@@ -197,7 +196,7 @@ fn a_refused_free_leaves_its_way_to_a_reload() {
 fn a_free_judged_as_evict_leaves_no_way_to_a_reload() {
     for start in cases(2, RECOVERABLE) {
         let mut bytes = start.clone();
-        free_judged_over(HELD, &mut bytes, 0);
+        free_judged_on(Picture::clone, &mut bytes, 0);
         assert_eq!(reload(&mut bytes, 0), Err(NO_CHANGE));
         assert_eq!(broken_promise(&start, &bytes).as_deref(), Some(GONE_1));
     }
@@ -269,23 +268,23 @@ fn evict_and_free_follow_the_words() {
     let mut random = Random::new(11);
     let sizes: Vec<Size> = (0..1000).map(|_| Size::middle(&mut random)).collect();
     let waiting = sizes.into_iter().map(|size| waiting(&mut random, size));
-    // Blocks by whether they cut what is served, and what could be.
+    // Blocks by whether they cut what is served, and what has chains of held or recoverable slots.
     let mut counts = [[0; 2]; 2];
     for picture in small_networks(12, 500).chain(tied_networks(13, 200)).chain(waiting) {
         for (block, numbers) in answers(&picture).into_iter().enumerate() {
             let slots = picture.block_locations(block).map(|location| picture.slots[location - 1]);
             let states: Vec<State> = slots.map(|slot| slot.state).collect();
             let now = cuts_by_words(&picture, block, |state| state == Held);
-            let could = cuts_by_words(&picture, block, |state| state != Freed);
+            let chained = cuts_by_words(&picture, block, |state| state != Freed);
             let due = |turns: bool, cuts: bool| match (turns, cuts) {
                 (false, _) => NO_CHANGE,
                 (true, true) => PROTECTED,
                 (true, false) => 0,
             };
             let evict = due(states.contains(&Held), now);
-            let free = due(states.iter().any(|state| *state != Freed), now || could);
+            let free = due(states.iter().any(|state| *state != Freed), now || chained);
             assert_eq!(numbers, [evict, free], "block {block} of {picture:?}");
-            counts[usize::from(now)][usize::from(could)] += 1;
+            counts[usize::from(now)][usize::from(chained)] += 1;
         }
     }
     assert!(counts.iter().flatten().all(|count| *count > 50), "{counts:?}");

@@ -69,6 +69,18 @@ impl Picture {
         }
     }
 
+    /// The same with each recoverable slot held, whatever the near limit: its chains are those of held or
+    /// recoverable slots, of which request C-19 tells.
+    pub fn all_reloaded(&self) -> Picture {
+        let mut reloaded = self.clone();
+        for slot in &mut reloaded.slots {
+            if slot.state == State::Recoverable {
+                slot.state = State::Held;
+            }
+        }
+        reloaded
+    }
+
     pub fn held_near(&self) -> usize {
         self.slots.iter().filter(|slot| slot.is_held_near()).count()
     }

@@ -1,5 +1,4 @@
-//! Who is reached, who is served, and whom a block cuts: by chains of held slots or, where request C-19
-//! has it, of held or recoverable ones.
+//! Who is reached, who is served, and what a block's eviction cuts.
 
 use std::collections::VecDeque;
 use std::ops::Range;
@@ -8,11 +7,6 @@ use crate::picture::{Picture, State};
 
 /// No location: the evicted ones where nothing is evicted.
 pub const NOTHING: Range<usize> = 0..0;
-
-/// What the chains of document 01 go over.
-pub const HELD: &[State] = &[State::Held];
-/// What the chains of request C-19 go over, whatever the near limit lets a reload hold.
-pub const HELD_OR_RECOVERABLE: &[State] = &[State::Held, State::Recoverable];
 
 /// Parent and depth of each location, by location number. Entry 0, the origin, stays 0 and 0; a
 /// slot with depth 0 is not reached.
@@ -57,8 +51,6 @@ pub fn no_longer_served<'s>(before: &'s [bool], after: &'s [bool]) -> impl Itera
 /// A picture with its links in adjacency lists.
 pub struct Network<'p> {
     pub picture: &'p Picture,
-    /// For each slot whether chains go over its state.
-    open: Vec<bool>,
     /// For each location the locations that it has a link to, each once, rising.
     pub links: Vec<Vec<u16>>,
     /// For each endpoint the locations with a serving link to it.
@@ -66,13 +58,7 @@ pub struct Network<'p> {
 }
 
 impl<'p> Network<'p> {
-    /// Chains go over held slots.
     pub fn new(picture: &'p Picture) -> Network<'p> {
-        Network::over(picture, HELD)
-    }
-
-    /// Chains go over slots of these states.
-    pub fn over(picture: &'p Picture, carriers: &[State]) -> Network<'p> {
         let mut links = vec![Vec::new(); picture.slots.len() + 1];
         for &(from, to) in &picture.links {
             links[usize::from(from)].push(to);
@@ -86,13 +72,12 @@ impl<'p> Network<'p> {
         for &(location, endpoint) in &picture.serving {
             feeders[usize::from(endpoint) - 1].push(location);
         }
-        let open = picture.slots.iter().map(|slot| carriers.contains(&slot.state)).collect();
-        Network { picture, open, links, feeders }
+        Network { picture, links, feeders }
     }
 
-    /// A slot that can carry a chain: by its state, and not among the evicted locations.
+    /// A slot that can carry a chain: held, and not among the evicted locations.
     pub fn carries(&self, slot: usize, evicted: &Range<usize>) -> bool {
-        self.open[slot - 1] && !evicted.contains(&slot)
+        self.picture.slots[slot - 1].state == State::Held && !evicted.contains(&slot)
     }
 
     /// The forest of fewest links, with the lowest parents, found by one breadth-first search.

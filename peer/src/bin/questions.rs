@@ -15,7 +15,7 @@ use peer::networks::{any_edition, flat, network, tied, Size, SHAPES};
 use peer::picture::{Endpoint, Picture, State};
 use peer::price::{any_records, pack_records};
 use peer::random::Random;
-use peer::reach::{Network, HELD, HELD_OR_RECOVERABLE};
+use peer::reach::Network;
 use peer::refusals::number_of;
 use peer::{
     check, choose, generate, lists_of, pack, price, samples, show, weigh, write, Asked, Edition, Lists,
@@ -472,17 +472,20 @@ fn ask_calls(table: &mut Table, random: &mut Random) {
     }
 }
 
-/// A few slots, of which some block cuts a protected endpoint off by chains over the first states and
-/// none by chains over the second.
-fn small_waiting(random: &mut Random, edition: Edition, [first, second]: [&[State]; 2]) -> Picture {
+/// A way to take a picture: as it is, or with all recoverable slots held.
+type Taken = fn(&Picture) -> Picture;
+
+/// A few slots, of which some block cuts a protected endpoint as the picture is taken first, and none as
+/// it is taken second.
+fn small_waiting(random: &mut Random, edition: Edition, [first, second]: [Taken; 2]) -> Picture {
     loop {
         let block_size = random.between(1, 2);
         let slots = block_size * random.between(2, 3);
         let (endpoints, serving) = (random.between(1, 3), random.between(2, 5));
         let size = Size { edition, block_size, slots, endpoints, links: slots + 1, serving };
         let picture = waiting(random, size);
-        let mark = |states, block| {
-            let (_, cut) = Network::over(&picture, states).weigh(&picture.block_locations(block));
+        let mark = |taken: Taken, block| {
+            let (_, cut) = Network::new(&taken(&picture)).weigh(&picture.block_locations(block));
             cut.mark
         };
         if (0..picture.block_count()).any(|block| mark(first, block) > mark(second, block)) {
@@ -495,8 +498,9 @@ fn small_waiting(random: &mut Random, edition: Edition, [first, second]: [&[Stat
 /// blocks are freed that may be, the others reloaded, and all that may be freed again.
 fn ask_frees(table: &mut Table, random: &mut Random) {
     for edition in EDITIONS {
-        for states in [[HELD, HELD_OR_RECOVERABLE], [HELD_OR_RECOVERABLE, HELD]] {
-            let picture = small_waiting(random, edition, states);
+        let (now, chained): (Taken, Taken) = (Picture::clone, Picture::all_reloaded);
+        for judgements in [[now, chained], [chained, now]] {
+            let picture = small_waiting(random, edition, judgements);
             let bytes = pack(&picture);
             let each = |act| (0..picture.block_count() as u32).map(move |block| Call { act, block });
             each(Act::Free).chain(each(Act::Evict)).for_each(|call| ask_act(table, &bytes, &call));
