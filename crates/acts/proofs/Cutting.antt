@@ -14,7 +14,7 @@ use Rattle.picture.specs.Picture.{picture_of}
 use Rattle.picture.specs.Inner.{Read}
 use Rattle.network.specs.declared.Tables.{Tables}
 use Rattle.network.specs.Words.{without_block}
-use Rattle.network.specs.Rows.{SlotRowOf, TablesOf, block_range}
+use Rattle.network.specs.Rows.{HeldRow, TablesOf, block_range}
 use Rattle.network.proofs.Named.{accepted_named}
 use Rattle.network.proofs.Blocks.{read_block_size, read_endpoints}
 use Rattle.weigh.specs.Sums.{LostBetween}
@@ -29,7 +29,7 @@ marked_one true = refl
 marked_one false = refl
 
 module _ {bs : List ℕ} {h : Header} (read : Read bs h) {t : Tables} (tables : TablesOf (picture_of bs) t)
-    {held : ℕ → Bool} {slots : List ℕ} (s : SlotRowOf (picture_of bs) held slots) (b : ℕ) where
+    {held : ℕ → Bool} {slots : List ℕ} (s : HeldRow (picture_of bs) held slots) (b : ℕ) where
   pub mark_cuts : {before after parent depth parent' depth' : List ℕ} → Walked (linked_in t.links) (without no_range (held_in slots)) (marked before) parent depth
       → Walked (linked_in t.links) (without (block_range h.block_size b) (held_in slots)) (marked after) parent' depth'
       → {lost : Lost} → LostBetween t.services t.weights t.protected h.endpoints before after lost

@@ -14,7 +14,7 @@ pub record Changes (a : Act) (p : Picture) (b : ℕ) : Type 0 where
   pub inside : T (in_block p b slot)
   pub other : after a (slot_of p slot).state ≢ (slot_of p slot).state
 
--- a protected endpoint has a chain through the locations of `held`, and has none without block b. Over what is held, b cuts a protected endpoint
+-- a protected endpoint has a chain through the locations of `held`, and has none without block b. Over what is held it is `CutsProtected`
 abbrev pub CutsOver : Picture → (ℕ → Bool) → ℕ → Type 0
 CutsOver p held b = LosesProtected p held (without_block p held b)
 

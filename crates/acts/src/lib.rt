@@ -8,7 +8,7 @@ ghost use Rattle.picture.specs.Layout.{state_number};
 ghost use Rattle.picture.specs.Picture.{header_of, picture_of, slot_of};
 ghost use Rattle.picture.specs.Inner.{Read};
 ghost use Rattle.network.specs.Words.{slot_count, block_count};
-ghost use Rattle.network.specs.Rows.{SlotRowOf, TablesOf};
+ghost use Rattle.network.specs.Rows.{HeldRow, TablesOf};
 ghost use Rattle.network.specs.Tests.{is_near_held};
 ghost use Rattle.acts.specs.Faults.{changes, cuts_over, cut_fault, near_fault, act_fault};
 ghost use Rattle.acts.specs.Answers.{act_bytes, acting, acting_numbers};
@@ -113,7 +113,7 @@ fn near_after(p: &Picture, b: usize) -> usize
 
 // The slots that are held or recoverable.
 fn held_or_recoverable(p: &Picture) -> Row
-    ensures { SlotRowOf (picture_of p.now) (held_or_recoverable (picture_of p.now)) result }
+    ensures { HeldRow (picture_of p.now) (held_or_recoverable (picture_of p.now)) result }
 {
     let mut slots = [0u64; WORDS];
     // Down to the first: so the loop has one count to keep.
@@ -129,8 +129,8 @@ fn held_or_recoverable(p: &Picture) -> Row
 fn cuts_over(p: &Picture, tables: &Tables, slots: Row, b: usize) -> bool
     requires block { b < block_count (picture_of p.now) }
     requires tables { TablesOf (picture_of p.now) tables.now }
-    requires slots { (held : ℕ → Bool) × SlotRowOf (picture_of p.now) held slots }
-    ensures { (held : ℕ → Bool) → SlotRowOf (picture_of p.now) held slots → result ≡ cuts_over (picture_of p.now) held b }
+    requires slots { (held : ℕ → Bool) × HeldRow (picture_of p.now) held slots }
+    ensures { (held : ℕ → Bool) → HeldRow (picture_of p.now) held slots → result ≡ cuts_over (picture_of p.now) held b }
 {
     let h = p.header();
     let n = h.slots;

@@ -17,7 +17,7 @@ use Rattle.picture.specs.Picture.{Slot, Picture, slot_of}
 use Rattle.picture.proofs.Starts.{slot_past}
 use Rattle.network.specs.Words.{slot_count, is_held}
 use Rattle.network.specs.Tests.{is_near_held}
-use Rattle.network.specs.Rows.{SlotRowOf, SlotRowsOf}
+use Rattle.network.specs.Rows.{HeldRow, SlotRowsOf}
 use Rattle.network.proofs.Candidates.{near_slot}
 use Rattle.network.proofs.Making.{Scanned, Above}
 
@@ -58,7 +58,7 @@ scanned_all f row v s h u = scanned_at f row v s u (h u)
 
 -- every slot was looked at: the row marks those that hold the bundle, where the origin does and past the slots nothing
 pub slot_looked : (p : Picture) (held : ℕ → Bool) (row : List ℕ) (v : ℕ) → held 0 ≡ true → ((u : ℕ) → 1 ≤ u → T (held u) → u ≤ length p.slots)
-    → length p.slots ≤ slots_max → v < 1 → Above held row v → SlotRowOf p held row
+    → length p.slots ≤ slots_max → v < 1 → Above held row v → HeldRow p held row
 unfolding held_in slot_count
 slot_looked p held row v origin own m z s =
     record {

@@ -21,13 +21,13 @@ pub record RowsOf (k : ℕ) (f : ℕ → ℕ → Bool) (table : List (List ℕ))
   pub same : (a b : ℕ) → linked_in table a b ≡ f a b
 
 -- a row that marks just the slots of `held`
-pub record SlotRowOf (p : Picture) (held : ℕ → Bool) (row : List ℕ) : Type 0 where
+pub record HeldRow (p : Picture) (held : ℕ → Bool) (row : List ℕ) : Type 0 where
   pub only : SlotsOnly (slot_count p) row
   pub same : (v : ℕ) → held_in row v ≡ held v
 
 -- the rows of the held slots and of the held near slots
 pub record SlotRowsOf (p : Picture) (holding nearby : List ℕ) : Type 0 where
-  pub held : SlotRowOf p (is_held p) holding
+  pub held : HeldRow p (is_held p) holding
   pub near : (v : ℕ) → marked nearby v ≡ is_near_held p v
 
 -- the weights of the endpoints by their numbers, and the row of the protected ones

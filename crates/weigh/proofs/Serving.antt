@@ -24,7 +24,7 @@ use Rattle.picture.proofs.Facts.{read_limited}
 use Rattle.network.specs.declared.Tables.{Tables}
 use Rattle.network.specs.Words.{endpoint_count, in_block, is_held, without_block, held_without, joins, weight_of, Named}
 use Rattle.network.specs.Tests.{marks, served, cut, cut_protected, sum_where, served_weight, weighed}
-use Rattle.network.specs.Rows.{RowsOf, SlotRowOf, EndpointsOf, TablesOf, block_range}
+use Rattle.network.specs.Rows.{RowsOf, HeldRow, EndpointsOf, TablesOf, block_range}
 use Rattle.network.proofs.Service.{marked_served, served_marked}
 use Rattle.network.proofs.Weights.{weight_small}
 use Rattle.network.proofs.Blocks.{read_slots}
@@ -39,7 +39,7 @@ walked_over : {linked : ℕ → ℕ → Bool} {held kept reaches : ℕ → Bool}
 walked_over {reaches = reaches} {parent = parent} {depth = depth} t h w =
     subst₂ (λ (l : ℕ → ℕ → Bool) (k : ℕ → Bool). Walked l k reaches parent depth) (fun_ext (λ a. fun_ext (λ b. t.same a b))) (fun_ext h) w
 
-module _ {p : Picture} {held : ℕ → Bool} {slots : List ℕ} (s : SlotRowOf p held slots) where
+module _ {p : Picture} {held : ℕ → Bool} {slots : List ℕ} (s : HeldRow p held slots) where
   -- a row of slots holds, outside no range, what it holds, and outside a block what is left without it
   pub now_held : (v : ℕ) → without no_range (held_in slots) v ≡ held v
   now_held v = none_without (held_in slots) v ∙ s.same v
@@ -57,7 +57,7 @@ module _ {p : Picture} {held : ℕ → Bool} {slots : List ℕ} (s : SlotRowOf p
         → Walked (joins p.links) (without_block p held b) reaches parent depth
     left_walked b e w = walked_over t (left_held b) (rw (← e) at w)
 
-module _ {bs : List ℕ} {h : Header} (read : Read bs h) {held : ℕ → Bool} {slots : List ℕ} (s : SlotRowOf (picture_of bs) held slots) where
+module _ {bs : List ℕ} {h : Header} (read : Read bs h) {held : ℕ → Bool} {slots : List ℕ} (s : HeldRow (picture_of bs) held slots) where
   -- a row of slots marks slots of the header
   pub slots_only_lem : SlotsOnly h.slots slots
   slots_only_lem = rw (← read_slots bs h read) s.only
