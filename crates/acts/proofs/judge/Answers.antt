@@ -3,6 +3,7 @@ use mathlib.Core.Path.{◌≡◌, sym, ◌∙◌}
 use mathlib.Core.Bool.{true}
 use Prim.Native.Nat.{◌<◌}
 use native.Mathlib.Omega.{arith}
+use Rattle.std.proofs.Common.{rules}
 use Rattle.std.proofs.lemmas.Result.{err_from_is_err_and}
 use Rattle.picture.specs.Picture.{picture_of}
 use Rattle.picture.proofs.Facts.{read_sizes}
@@ -43,4 +44,4 @@ returns-in_err-judge_cut c =
 pub returns : goal.returns
 returns c =
     cuts_none _ _ _ c.header-h.ensures.accepted (there (goal.at.returns c).Else-h-b) (changing (goal.at.returns c).Else-not-changes)
-    c.in_ok-judge_cut.ensures c.judge_near.ensures
+    c.in_ok-judge_cut.ensures (search rules)

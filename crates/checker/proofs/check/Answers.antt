@@ -1,5 +1,6 @@
 -- `check` tells the first fault. Assumes nothing.
 use Rattle.std.proofs.lemmas.Result.{err_from_is_err_and}
+use Rattle.std.proofs.Common.{rules}
 use Rattle.picture.proofs.Refusing.{answered_err, numbers_err, judged_answer, judged_numbers}
 use Rattle.checker.specs.Answers.{checking}
 use Rattle.checker.proofs.Answering.{check_picture}
@@ -14,4 +15,4 @@ returns-in_err-p c =
 
 pub returns : goal.returns
 unfolding checking
-returns c = let told = rw c.in_ok-p.ensures.0 at c.judge.ensures in record { answer = judged_answer _ told; numbers = judged_numbers _ told }
+returns c = record { answer = judged_answer _ (search rules); numbers = judged_numbers _ (search rules) }
