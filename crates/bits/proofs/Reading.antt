@@ -104,7 +104,7 @@ field_at_byte bs k h =
         ap₂ (λ (j e : ℕ). get_or bs j 0 / 2 ^ e % 2) byte place
 
 -- one byte more behind i of them
-field_at_more : (bs : List ℕ) (k i : ℕ) → get_or bs (k + i) 0 < 256 → field_at bs (k * 8) ((i + 1) * 8) ≡ field_at bs (k * 8) (i * 8) * 256 + get_or bs (k + i) 0
+pub field_at_more : (bs : List ℕ) (k i : ℕ) → get_or bs (k + i) 0 < 256 → field_at bs (k * 8) ((i + 1) * 8) ≡ field_at bs (k * 8) (i * 8) * 256 + get_or bs (k + i) 0
 field_at_more bs k i h =
     let width : (i + 1) * 8 ≡ i * 8 + 8 = omega arith in
     let place : k * 8 + i * 8 ≡ (k + i) * 8 = omega arith in

@@ -12,6 +12,7 @@ use Rattle.picture.specs.Refusals.{answer_of, answer_numbers, refusal_of, refusa
 use Rattle.picture.specs.declared.Edition.{Edition}
 use Rattle.picture.specs.declared.Header.{Header}
 use Rattle.picture.specs.declared.Link.{Link}
+use Rattle.picture.specs.Layout.{size_of}
 use Rattle.picture.specs.Picture.{Picture, header_of, picture_of}
 use Rattle.picture.specs.Faults.{state_fault, link_fault, service_link_fault, list_faults, body_faults, faults_with, picture_fault}
 use Rattle.picture.specs.Answers.{reading, reading_numbers, header_values}
@@ -25,6 +26,16 @@ use Rattle.acts.specs.declared.Act.{Act}
 use Rattle.acts.specs.declared.Act.TheVariants.{Evict, Reload, Free}
 use Rattle.acts.specs.Faults.{cut_fault, near_fault, act_fault}
 use Rattle.acts.specs.Answers.{acting, acting_numbers}
+use Rattle.write.specs.Columns.{Lists}
+use Rattle.write.specs.Rules.{size_for}
+use Rattle.write.specs.Faults.{handed_faults, write_fault}
+use Rattle.write.specs.Answers.{writing, writing_numbers}
+use Rattle.generator.specs.Faults.{asked_faults, generate_fault}
+use Rattle.generator.specs.Answers.{generating}
+use Rattle.price.specs.declared.Record.{Record}
+use Rattle.price.specs.Traffic.{records_of}
+use Rattle.price.specs.Faults.{link_start_fault, flat_fault, length_fault, record_fault, records_fault, price_fault}
+use Rattle.price.specs.Answers.{counters, pricing, pricing_numbers}
 
 -- a number is 0 or a refusal's
 last : ℕ
@@ -137,6 +148,32 @@ act_known : (a : Act) (bs : List ℕ) (b : ℕ) → act_fault a bs b ≤ last
 unfolding act_fault last
 act_known a bs b = next_known _ (picture_known bs) (next_known _ (block_known _ b) (next_known _ (on_known _ (omega arith)) (next_known _ (cut_known a _ b) (next_known _ (near_known a _ b) none_known))))
 
+write_known : (l : Lists) (buf : List ℕ) → write_fault l buf ≤ last
+unfolding write_fault handed_faults list_faults last
+write_known l buf =
+    next_known _ (on_known _ (omega arith))
+    (next_known _ (on_known _ (omega arith))
+    (next_known _ (on_known _ (omega arith))
+    (next_known _ (on_known _ (omega arith))
+    (next_known _ (on_known _ (omega arith))
+    (next_known _ (on_known _ (omega arith))
+    (next_known _ (map_known _ _ (λ s. state_known s.state))
+    (next_known _ (map_known _ _ (link_known _))
+    (next_known _ (map_known _ _ (service_link_known _ _)) (next_known _ (on_known _ (omega arith)) none_known)))))))))
+
+generate_known : (h : Header) (buf : List ℕ) → generate_fault h buf ≤ last
+unfolding generate_fault asked_faults last
+generate_known h buf =
+    next_known _ (on_known _ (omega arith))
+    (next_known _ (on_known _ (omega arith)) (next_known _ (on_known _ (omega arith)) (next_known _ (on_known _ (omega arith)) none_known)))
+
+price_known : (bs records : List ℕ) → price_fault bs records ≤ last
+unfolding price_fault flat_fault length_fault records_fault link_start_fault record_fault last
+price_known bs records =
+    next_known _ (picture_known bs)
+    (next_known _ (map_known _ _ (λ l. on_known _ (omega arith)))
+    (next_known _ (on_known _ (omega arith)) (next_known _ (map_known _ _ (λ r. on_known _ (omega arith))) none_known)))
+
 -- ---- what each call answers
 
 pub reading_numbers_lem : (bs : List ℕ) → reading_numbers (reading bs) ≡ outcome (picture_fault bs) (header_values (header_of bs))
@@ -158,3 +195,16 @@ checking_numbers_lem bs ev = numbers_told (λ _. []) tt _ (check_known bs ev)
 pub acting_numbers_lem : (a : Act) (bs : List ℕ) (b : ℕ) → acting_numbers (acting a bs b) ≡ outcome (act_fault a bs b) []
 unfolding acting
 acting_numbers_lem a bs b = numbers_told (λ _. []) tt _ (act_known a bs b)
+
+pub writing_numbers_lem : (l : Lists) (buf : List ℕ) → writing_numbers (writing l buf) ≡ outcome (write_fault l buf) (size_for l ∷ [])
+unfolding writing
+writing_numbers_lem l buf = numbers_told (λ size. size ∷ []) _ _ (write_known l buf)
+
+pub generating_numbers_lem : (h : Header) (buf : List ℕ) → writing_numbers (generating h buf) ≡ outcome (generate_fault h buf) (size_of h ∷ [])
+unfolding generating
+generating_numbers_lem h buf = numbers_told (λ size. size ∷ []) _ _ (generate_known h buf)
+
+pub pricing_numbers_lem : (bs records : List ℕ)
+    → pricing_numbers (pricing bs records) ≡ outcome (price_fault bs records) (counters (picture_of bs) (records_of records))
+unfolding pricing
+pricing_numbers_lem bs records = numbers_told (λ counters. counters) _ _ (price_known bs records)

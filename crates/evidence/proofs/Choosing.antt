@@ -59,6 +59,12 @@ module _ {p : Picture} (n : Named p) (below : (b : ℕ) → Candidate p b → b 
   pub marked_cut : ((w : Cost) → Placed no_cost (weighings p) w → w.mark ≢ 0) → (b : ℕ) → Candidate p b → CutsProtected p b
   marked_cut m b c = marked_protected n b (m (weighed p b) (candidate_weighing p below c))
 
+  pub cut_marked : ((b : ℕ) → Candidate p b → CutsProtected p b) → (w : Cost) → Placed no_cost (weighings p) w → w.mark ≢ 0
+  cut_marked k w o = go (weighing_candidate p o)
+    where
+      go : {w : Cost} → Weighing p w → w.mark ≢ 0
+      go (of b c) z = clear_admissible n b z (k b c)
+
   pub choice_as_ruled : Verdict p (verdict_of (choice p)) (chosen_block (choice p)) (chosen_loss (choice p))
   unfolding choice
   choice_as_ruled = go (least_right (weighings p))

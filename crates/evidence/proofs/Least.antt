@@ -40,6 +40,12 @@ less_then l m =
       cuts = λ e. omega (arith, l.cuts (omega (arith, l.loss, m.loss)), m.cuts (omega (arith, l.loss, m.loss)));
     }
 
+-- two of which neither has more are equal
+pub no_more_both : {a c : Cost} → NoMore a c → NoMore c a → (a.loss ≡ c.loss) × (a.cuts ≡ c.cuts)
+no_more_both {a} {c} m o =
+    let e : a.loss ≡ c.loss = omega (arith, m.loss, o.loss) in
+    (e, omega (arith, m.cuts e, o.cuts (sym e)))
+
 module _ (w c : Cost) where
   test_less : is_less w c ≡ true → Less w c
   unfolding is_less
@@ -59,11 +65,7 @@ pub record Least (ws : List Cost) (c : Cost) : Type 0 where
 
 -- two such lose and cut as much
 pub least_same : {ws : List Cost} {a c : Cost} → Least ws a → Least ws c → (a.loss ≡ c.loss) × (a.cuts ≡ c.cuts)
-least_same {ws} {a} {c} k l =
-    let m = k.least l.placed l.clear in
-    let o = l.least k.placed k.clear in
-    let e : a.loss ≡ c.loss = omega (arith, m.loss, o.loss) in
-    (e, omega (arith, m.cuts e, o.cuts (sym e)))
+least_same k l = no_more_both (k.least l.placed l.clear) (l.least k.placed k.clear)
 
 -- c is the first of these
 pub record Chosen (ws : List Cost) (c : Cost) : Type 0 where

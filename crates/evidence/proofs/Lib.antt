@@ -1,5 +1,6 @@
 -- Laws of evidence: its tests say what its rules say, a picture's own evidence passes, and every evidence that passes has one verdict.
 pub mod Least
+pub mod Choices
 pub mod Weighings
 pub mod Places
 pub mod Fields

@@ -68,12 +68,21 @@ module _ {e : Edition} (known : Known e) where
   unfolding section_bits
   section_most n i l m = mul-le-mul m (omega (arith, forest_most n l))
 
+  -- so that places are small numbers
+  pub section_small : (n i : ℕ) → n ≤ edition2.slots_max → i ≤ 255 → section_at e n i < 2 ^ 21
+  unfolding section_at head_widths section_bits section_head_widths forest_bits node_widths sum
+  section_small n i l m = omega (arith, forest_most n l, section_most n i l m)
+
   pub forest_at_lem : (n k : ℕ) → forest_at e n k ≡ sum head_widths + k * section_bits e n
   unfolding forest_at section_at
   forest_at_lem n zero = omega arith
   forest_at_lem n (suc i) = unfold section_bits in omega (arith, suc-mul i (section_bits e n))
 
--- so that places under a header are small numbers
+  pub forest_small : (n k : ℕ) → n ≤ edition2.slots_max → k ≤ 255 → forest_at e n k < 2 ^ 21
+  unfolding head_widths section_bits section_head_widths forest_bits node_widths sum
+  forest_small n k l m = omega (arith, forest_at_lem n k, section_most n k l m)
+
+-- the same under a header
 module _ (h : Header) (l : Limited h) where
   abbrev most : h.slots ≤ edition2.slots_max
   most = (few h l).slots
@@ -83,15 +92,14 @@ module _ (h : Header) (l : Limited h) where
   forest_low = omega (arith, forest_most l.known h.slots most)
 
   pub section_low : (i : ℕ) → i ≤ 255 → section_at h.edition h.slots i < 2 ^ 21
-  unfolding section_at head_widths section_bits section_head_widths forest_bits node_widths sum
-  section_low i m = omega (arith, forest_most l.known h.slots most, section_most l.known h.slots i most m)
+  section_low i = section_small l.known h.slots i most
 
   pub sections_low : (k : ℕ) → k ≤ 255 → sum head_widths + k * section_bits h.edition h.slots < 2 ^ 21
   unfolding section_at
   sections_low k m = omega (arith, section_low k m)
 
   pub forest_place_low : (k : ℕ) → k ≤ 255 → forest_at h.edition h.slots k < 2 ^ 21
-  forest_place_low k m = omega (arith, forest_at_lem l.known h.slots k, sections_low k m)
+  forest_place_low k = forest_small l.known h.slots k most
 
 -- what the sums of the code ask for
 pub ruleset places = (head_whole, section_head_whole, forest_low, section_low, sections_low, forest_at_lem)

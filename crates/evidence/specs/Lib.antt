@@ -10,3 +10,6 @@ pub mod Calls
 -- Computes: the number of the first fault of evidence from anywhere. `check_judged` of proofs/Judged.antt shows that it is the number of the
 -- first rule that is broken, or 0 where all of them hold
 pub mod Checks
+-- Serves one function that no call goes through: a choice of any numbers. `bettered_same` of proofs/Choices.antt shows that of the numbers of a
+-- choice it is `bettered`
+pub mod Choices

@@ -7,6 +7,7 @@ ghost use Rattle.lists.specs.Lists.{sum};
 ghost use Rattle.picture.specs.Inner.{Known, Limited};
 ghost use Rattle.evidence.specs.Layout.{node_widths, forest_bits, section_bits, section_bytes, section_at, forest_at, evidence_bytes};
 ghost use Rattle.evidence.specs.Canonical.{is_less, bettered};
+ghost use Rattle.evidence.specs.Choices.{bettered_numbers};
 ghost use Rattle.evidence.specs.Contents.{head_in, section_in};
 
 use network::Cost;
@@ -79,6 +80,15 @@ pub struct Stated {
     pub block: usize,
     pub loss: usize,
     pub mark: usize,
+}
+
+// A choice by numbers: verdict 1 with a block, its loss and how many endpoints it cuts, or all 0. Choose and the check have an `Option<Cost>`.
+#[derive(Clone, Copy)]
+pub struct Choice {
+    pub verdict: usize,
+    pub block: usize,
+    pub loss: usize,
+    pub cuts: usize,
 }
 
 // A part of the evidence, in bytes.
@@ -199,4 +209,26 @@ pub fn better(best: Option<Cost>, w: Cost) -> Option<Cost>
         Some(c) if !is_less(w, c) => best,
         _ => Some(w),
     }
+}
+
+// The same of a choice by numbers, whatever these are: any verdict but 0 names a block.
+#[tactic(auto, unfolding(crate::specs::Choices::bettered_numbers))]
+pub fn better_by_numbers(c: Choice, w: Cost) -> Choice
+    ensures { result ≡ bettered_numbers c w }
+{
+    let chosen = Cost {
+        block: c.block,
+        loss: c.loss,
+        cuts: c.cuts,
+        mark: 0,
+    };
+    if w.mark == 0 && (c.verdict == 0 || is_less(w, chosen)) {
+        return Choice {
+            verdict: 1,
+            block: w.block,
+            loss: w.loss,
+            cuts: w.cuts,
+        };
+    }
+    c
 }

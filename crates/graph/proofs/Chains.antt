@@ -41,11 +41,13 @@ module _ {linked : ℕ → ℕ → Bool} {held : ℕ → Bool} where
   pub fewest_one : {v j k : ℕ} → Fewest linked held v j → Fewest linked held v k → j ≡ k
   fewest_one {v} {j} {k} a b = le_antisymm (a.fewest k b.chain) (b.fewest j a.chain)
 
-  -- a chain of fewest links goes through a location whose fewest links are one fewer
+  -- up to its last link a chain of fewest links is one of fewest links: a shorter one would go on to its end
+  pub last_fewest : {u v k : ℕ} → Fewest linked held v (suc k) → Chain linked held k u → T (linked u v) → T (held v) → Fewest linked held u k
+  last_fewest f c l h = record { chain = c; fewest = λ j d. le_of_suc-le-suc (f.fewest (suc j) (step d l h)) }
+
+  -- so it goes through a location whose fewest links are one fewer
   pub fewest_before : {v k : ℕ} → Fewest linked held v (suc k) → (u : ℕ) × Fewest linked held u k × T (linked u v)
-  fewest_before {v} {k} f =
-      let s = last_link f.chain in
-      (s.0, record { chain = s.1; fewest = λ j c. le_of_suc-le-suc (f.fewest (suc j) (step c s.2 s.3)) }, s.2)
+  fewest_before f = let s = last_link f.chain in (s.0, last_fewest f s.1 s.2 s.3, s.2)
 
   -- every lower number of links is the fewest to some location
   pub fewest_below : (k : ℕ) {v : ℕ} → Fewest linked held v k → (i : ℕ) → i ≤ k → (u : ℕ) × Fewest linked held u i

@@ -1,7 +1,7 @@
 -- The rules of a forest: one that keeps them has in it exactly what chains reach, and the computed forest keeps them. Assumes nothing.
 use mathlib.Core.Path.{◌≡◌, refl, sym, ap, ◌∙◌}
 use mathlib.Core.Bool.{Bool}
-use mathlib.Core.Logic.{inl, inr, ◌≢◌, ◌↔◌, by_cases}
+use mathlib.Core.Logic.{inl, inr, ◌≢◌, ◌↔◌, ⊎_elim, by_cases}
 use mathlib.Core.List.{List}
 use Prim.Native.Nat.{ℕ, zero, suc, ◌≤◌, ◌<◌, zero-le, suc-le-suc}
 use native.Mathlib.Omega.{arith}
@@ -20,6 +20,14 @@ use Rattle.graph.proofs.Forests.{fewest_reached, entry_one}
 use Rattle.graph.proofs.Nodes.{length_forest, forest_at_lem, node_entry}
 
 -- ---- nodes and their slots
+
+-- whether a location is in a forest can be decided
+pub in? : (es : List Node) (v : ℕ) → Dec (In es v)
+in? es v =
+    by_cases
+    (ℕ_discrete v 0)
+    (λ z. yes (inl z))
+    (λ slot. by_cases (ℕ_discrete (node_of es v).depth 0) (λ z. no (⊎_elim slot (λ deep. deep z))) (λ deep. yes (inr deep)))
 
 -- above the slots of a forest there are no nodes
 pub node_above : (es : List Node) (v : ℕ) → length es < v → node_of es v ≡ record { parent = 0; depth = 0 }

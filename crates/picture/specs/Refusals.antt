@@ -1,5 +1,5 @@
 -- Refusals and answers, for every call: document 01's numbers for each of their cases. Assumes nothing.
-use Rattle.std.specs.Prelude.{List, [], ◌∷◌, ℕ, zero, suc, ◌-◌, Result, Ok, Err, get_or}
+use Rattle.std.specs.Prelude.{List, [], ◌∷◌, ◌++◌, ℕ, zero, suc, ◌-◌, Result, Ok, Err, get_or, codes, decimal}
 use Rattle.picture.specs.declared.refusals.Refusal.{Refusal}
 use Rattle.picture.specs.declared.refusals.Refusal.TheVariants.{Short, Edition, Blocks, Counts, State, Link, Fill, NoBlock, Buffer, Protected, NoChange, Near, Form, Forest, Weight, Verdict, ServiceLocation, ServiceEndpoint, LinkStart, Records, RecordEndpoint}
 
@@ -26,6 +26,10 @@ refusal_number ServiceEndpoint = 18
 refusal_number LinkStart = 19
 refusal_number Records = 20
 refusal_number RecordEndpoint = 21
+
+-- "refused 7": what a refusal prints, a word and its number in decimal
+abbrev pub refusal_text : Refusal → List ℕ
+refusal_text e = codes "refused " ++ decimal (refusal_number e)
 
 -- the refusals in the order of their numbers, from 1 on
 abbrev pub refusals : List Refusal

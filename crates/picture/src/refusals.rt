@@ -1,7 +1,7 @@
 // The numbers of refusals, for every layer, by the names of the header for C. Every call judges the picture first (1 to 7, 17 and 18),
 // write the lists of one (2 to 6, 17 and 18), and generate its sizes (3 and 4).
-ghost use Rattle.std.specs.Prelude.{◌≡◌};
-ghost use Rattle.picture.specs.Refusals.{refusal_number};
+ghost use Rattle.std.specs.Prelude.{◌≡◌, Some};
+ghost use Rattle.picture.specs.Refusals.{refusal_number, refusal_text};
 
 use std::fmt;
 
@@ -86,7 +86,10 @@ impl Refusal {
     }
 }
 
+// What the program that makes pictures says of one.
 impl fmt::Display for Refusal {
+    ghost output = { λ e. Some (refusal_text e) };
+
     fn fmt<W: fmt::Write>(&self, f: &mut fmt::Formatter<W>) -> fmt::Result {
         write!(f, "refused {}", self.number())
     }
