@@ -35,11 +35,12 @@ struct Columns<'a> {
     service_links: &'a [[u16; 2]],
 }
 
-// The link of a pair.
+// The link of a pair. By reference: of a pair by value both ends are read as one word and taken apart, and the loop over pairs takes three
+// instructions a pair more.
 // Kept: no From, since a `Link` is picture's, which knows of no pairs.
 #[tactic(auto, unfolding(crate::specs::Columns::link_from))]
-fn link_from(pair: [u16; 2]) -> Link
-    ensures { result ≡ link_from pair }
+fn link_from(pair: &[u16; 2]) -> Link
+    ensures { result ≡ link_from pair.now }
 {
     Link {
         from: usize::from(pair[0]),
@@ -67,7 +68,7 @@ fn judge_pairs<F: Fn(Link) -> Result<(), Refusal>>(
         → fault_of result ≡ first (map fault (map link_from pairs.now)) }
 {
     for pair in pairs {
-        judge(link_from(*pair))?;
+        judge(link_from(pair))?;
     }
     Ok(())
 }
@@ -146,7 +147,7 @@ fn push_links(
     ensures { Follows buf.old from (flat (map (link_fields (from_bits ∷ to_bits ∷ [])) (map link_from pairs.now))) buf.new result }
 {
     let row = |i: usize| {
-        let l = link_from(pairs[i]);
+        let l = link_from(&pairs[i]);
         (l.from, l.to)
     };
     // Where the widths are those of edition 1, they are told as the constants that they are: the loop is then compiled for them by itself.
