@@ -132,6 +132,11 @@ bytes_copied bs ys k n c v small h e f =
     put_mid-paste k n bs ys zs c f (sym e) (sym long) ∙ paste_all bs k zs c (sym long) ∙ sym (append_assoc (take k bs) zs (drop (k + c) bs))
     ∙ ap (λ (m : ℕ). take k bs ++ zs ++ drop (k + m) bs) (sym long) ∙ sym (sets-eq zs bs k (omega (arith, long))) ∙ sym (put_field_bytes c bs k v small h)
 
+-- the same of bytes of any number that is the field's
+pub bytes_taken : (bs ys : List ℕ) (k n c : ℕ) {x v : ℕ} → ((j : ℕ) → get_or bs j 0 < 256) → k + c ≤ length bs → n ≡ c → ys ≡ bytes_high_first c x → x ≡ v
+    → put_mid k n bs ys ≡ put_field bs (k * 8) (c * 8) v
+bytes_taken bs ys k n c {x} small h e f same = bytes_copied bs ys k n c x small h e f ∙ ap (put_field bs (k * 8) (c * 8)) same
+
 -- the bytes keep their number
 pub flushed_long : (bs : List ℕ) (p held : ℕ) → length (flushed bs p held) ≡ length bs
 unfolding flushed
